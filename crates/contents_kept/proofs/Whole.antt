@@ -10,8 +10,11 @@ use Rattle.node_core.specs.Node.{NodeState}
 use Rattle.node_core.specs.declared.input.Input.{Input}
 use Rattle.node_core.specs.declared.input.Input.TheVariants as inputs
 use Rattle.node_core.specs.declared.lane.Body.{Body}
+use Rattle.node_core.specs.declared.lane.Lane.{Lane}
+use Rattle.line_step.proofs.Beside.{beside-lane}
 use Rattle.line_step.specs.Lines.{Connects, Flows, LineSteps, arrived, connecting, met as met_on}
 use Rattle.line_step.specs.Numbered.{ChangesMachine, Stand, no_node, node_at}
+use Rattle.line_step.specs.Tracks.{IsBeside, TrackLine, TrackSteps, asked_on, other_line, own_line}
 use Rattle.line_step.specs.Runs.{IsRun, Point}
 use Rattle.line_step.specs.Shown.{standings_told}
 use Rattle.line_step.specs.State.{LineState, no_line, one_more}
@@ -177,15 +180,32 @@ front_alone t number (lines.Signal m level on) before after told st steps = λ w
       (subst (λ (n : NodeState). In now n.lane.body.kept) is i) ids)
 front_alone t number _ before after told st steps = tt
 
+-- a line of another track
+beside_whole : (t : Trace) (before after : LineState) (told : List Happening) → Stands t before → IsBeside before after → StaysWhole told before after
+beside_whole t before after told st beside =
+    let whole : AreWhole told before after = same_whole told before after (starting_of st) (λ machine. ap (λ (l : Lane). l.body) (beside-lane before after machine beside)) in
+    record {
+      kept = λ machine was now has i ids. (whole machine).kept was now (has_in before machine was has) i ids;
+      held = λ machine was now has is ids. (whole machine).out was now (has_in before machine was has) is ids;
+    }
+
+track_whole : (t : Trace) (number : ℕ) (line : TrackLine) (before after : LineState) (told : List Happening) → Stands t before → TrackSteps number line before after told → StaysWhole told before after
+track_whole t number (own_line line) before after told st steps = line_whole t number line before after told st steps
+track_whole t number other_line before after told st steps = beside_whole t before after told st steps.0
+
+track_front : (t : Trace) (number : ℕ) (line : TrackLine) (before after : LineState) (told : List Happening) → Stands t before → TrackSteps number line before after told → ChangesFrontAlone (asked_on line) before after
+track_front t number (own_line line) before after told st steps = front_alone t number line before after told st steps
+track_front t number other_line before after told st steps = tt
+
 -- ---- along a run
 
-whole_run : (s : LineState) (asked : List ScriptLine) (points : List Point) (n : ℕ) → Stood s → IsRun s asked points → AreStood (take n points) → AreContentsWhole s asked (take n points)
+whole_run : (s : LineState) (asked : List TrackLine) (points : List Point) (n : ℕ) → Stood s → IsRun s asked points → AreStood (take n points) → AreContentsWhole s asked (take n points)
 whole_run s [] points zero was run all = tt
 whole_run s (line ∷ asked) points zero was run all = tt
 whole_run s [] [] (suc n) was run all = tt
 whole_run s [] (point ∷ points) (suc n) was run all = elim run [ ]
 whole_run s (line ∷ asked) [] (suc n) was run all = elim run [ ]
-whole_run s (line ∷ asked) (point ∷ points) (suc n) was run all = (line_whole was.trace (s.lines + 1) line s point.after point.told was.stands run.0, front_alone was.trace (s.lines + 1) line s point.after point.told was.stands run.0, whole_run point.after asked points n all.0 run.1 all.1)
+whole_run s (line ∷ asked) (point ∷ points) (suc n) was run all = (track_whole was.trace (s.lines + 1) line s point.after point.told was.stands run.0, track_front was.trace (s.lines + 1) line s point.after point.told was.stands run.0, whole_run point.after asked points n all.0 run.1 all.1)
 
 -- THE LAW
 pub contents_whole : SaysAlone → ConnectsBear → ContentsStayWhole
@@ -200,7 +220,7 @@ kept_line whole machine was now i j same = elim (whole.kept machine was now (inl
   | inr (inr sub) ↦ inr (by_sub sub.place sub.tells)
 ]
 
-kept_run : (s : LineState) (asked : List ScriptLine) (points : List Point) → IsRun s asked points → (n : ℕ) → AreContentsWhole s asked (take n points) → AreContentsKept s (take n points)
+kept_run : (s : LineState) (asked : List TrackLine) (points : List Point) → IsRun s asked points → (n : ℕ) → AreContentsWhole s asked (take n points) → AreContentsKept s (take n points)
 kept_run s asked points run zero whole = tt
 kept_run s asked [] run (suc n) whole = tt
 kept_run s [] (point ∷ points) run (suc n) whole = elim run [ ]

@@ -17,10 +17,11 @@ use Rattle.line_report.specs.declared.happening.Happening.TheVariants as happeni
 use Rattle.node_core.specs.declared.act.Act.TheVariants as acts
 use Rattle.line_step.specs.Lies.{has_lie}
 use Rattle.line_step.specs.Numbered.{node_at}
+use Rattle.line_step.specs.Tracks.{TrackLine, asked_on}
 use Rattle.line_step.specs.Runs.{IsRun, Point, IsShort}
 use Rattle.line_step.specs.State.{LineState, no_line}
 use Rattle.contents_kept.specs.Records.{KeepsRecord}
-use Rattle.one_standing.specs.Standing.{IsFitLine}
+use Rattle.one_standing.specs.Standing.{IsFitTrack}
 use Rattle.one_standing.specs.Told.{IsTold}
 
 -- the outlet of a machine holds this record: it was opened, and has not left or come back
@@ -84,15 +85,15 @@ ChangesFrontAlone (lines.Signal machine line on) before after =
 ChangesFrontAlone _ before after = Unit {0}
 
 -- along the points of a run, from a state on
-abbrev pub AreContentsWhole : LineState → List ScriptLine → List Point → Type 0
+abbrev pub AreContentsWhole : LineState → List TrackLine → List Point → Type 0
 AreContentsWhole s (line ∷ asked) (point ∷ points) =
-    StaysWhole point.told s point.after × ChangesFrontAlone line s point.after
+    StaysWhole point.told s point.after × ChangesFrontAlone (asked_on line) s point.after
     × AreContentsWhole point.after asked points
 AreContentsWhole s _ _ = Unit {0}
 
 -- THE LAW: over each line of every script, up to the first one that told what was not so
 abbrev pub ContentsStayWhole : Type 0
 ContentsStayWhole =
-    (asked : List ScriptLine) (points : List Point) (n : ℕ) → AllByRecursion IsFitLine asked
+    (asked : List TrackLine) (points : List Point) (n : ℕ) → AllByRecursion IsFitTrack asked
     → IsShort no_line points → IsRun no_line asked points → has_lie (take n points) ≡ false
     → AreContentsWhole no_line asked (take n points)

@@ -4,15 +4,15 @@ use Rattle.std.specs.Prelude.{List, [], false, length, take, ℕ, ◌∷◌, ◌
 use Rattle.std.specs.List.{AllByRecursion}
 use Rattle.line_base.specs.declared.states.Quality.{Quality}
 use Rattle.board_record.specs.declared.record.Record.{Record}
-use Rattle.line_script.specs.declared.line.ScriptLine.{ScriptLine}
 use Rattle.line_report.specs.declared.happening.Happening.{Happening}
 use Rattle.line_report.specs.declared.happening.Happening.TheVariants as happenings
 use Rattle.node_core.specs.declared.act.Act.TheVariants as acts
 use Rattle.line_step.specs.Lies.{has_lie}
 use Rattle.line_step.specs.Numbered.{node_at}
+use Rattle.line_step.specs.Tracks.{TrackLine}
 use Rattle.line_step.specs.Runs.{IsRun, Point, IsShort}
 use Rattle.line_step.specs.State.{LineState, no_line}
-use Rattle.one_standing.specs.Standing.{IsFitLine}
+use Rattle.one_standing.specs.Standing.{IsFitTrack}
 use Rattle.one_standing.specs.Told.{IsTold}
 
 -- a record is one of these
@@ -47,6 +47,6 @@ AreContentsKept s (point ∷ points) =
 -- THE LAW: over each line of every script, up to the first one that told what was not so
 abbrev pub ContentsAreKept : Type 0
 ContentsAreKept =
-    (asked : List ScriptLine) (points : List Point) (n : ℕ) → AllByRecursion IsFitLine asked
+    (asked : List TrackLine) (points : List Point) (n : ℕ) → AllByRecursion IsFitTrack asked
     → IsShort no_line points → IsRun no_line asked points → has_lie (take n points) ≡ false
     → AreContentsKept no_line (take n points)

@@ -1,13 +1,13 @@
 -- A STANDING NAMES WHAT IS THERE: a machine of the line, or a gap that has a machine on both sides.
 use Rattle.std.specs.Prelude.{List, false, length, take, ℕ, ◌+◌, ◌≡◌, ◌≤◌}
 use Rattle.std.specs.List.{AllByRecursion}
-use Rattle.line_script.specs.declared.line.ScriptLine.{ScriptLine}
 use Rattle.standings.specs.Standing.{HasStanding, Place}
 use Rattle.standings.specs.declared.standing.Standing.TheVariants.{Between, With}
 use Rattle.line_step.specs.Lies.{has_lie}
+use Rattle.line_step.specs.Tracks.{TrackLine}
 use Rattle.line_step.specs.Runs.{IsRun, Point, IsShort}
 use Rattle.line_step.specs.State.{LineState, marks_in, no_line}
-use Rattle.one_standing.specs.Standing.{IsFitLine}
+use Rattle.one_standing.specs.Standing.{IsFitTrack}
 
 -- the machines of a line are numbered from 1, and gap k lies between the machines k and k + 1
 abbrev pub IsThere : LineState → Place → Type 0
@@ -22,6 +22,6 @@ NamesWhatIsThere s =
 -- THE LAW: after each line of every script, up to the first one that told what was not so
 abbrev pub StandingsNameWhatIsThere : Type 0
 StandingsNameWhatIsThere =
-    (asked : List ScriptLine) (points : List Point) (n : ℕ) → AllByRecursion IsFitLine asked
+    (asked : List TrackLine) (points : List Point) (n : ℕ) → AllByRecursion IsFitTrack asked
     → IsShort no_line points → IsRun no_line asked points → has_lie (take n points) ≡ false
     → AllByRecursion (λ (point : Point). NamesWhatIsThere point.after) (take n points)

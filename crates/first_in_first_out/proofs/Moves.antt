@@ -14,6 +14,7 @@ use Rattle.line_world.proofs.Keeping.{between_after}
 use Rattle.line_report.specs.declared.happening.Happening.{Happening}
 use Rattle.line_report.specs.declared.happening.Happening.TheVariants as happenings
 use Rattle.node_core.specs.declared.input.Input.{Input}
+use Rattle.line_step.specs.Tracks.{TrackLine, TrackSteps, other_line, own_line}
 use Rattle.line_step.specs.Lines.{LineSteps, lied, spoil_told, spoiled, unseen, unvouched_told}
 use Rattle.line_step.specs.Shown.{standings_told}
 use Rattle.line_step.specs.State.{LineState, one_more}
@@ -96,6 +97,12 @@ line_moved number line before after told gap step steps is =
     (all_pass (standings_told before next) (remarks_tell (Moved before next)) (standings_remarks before next)) in
     let m : Moved before next gap step = among_told (Moved before next) is (subst (λ (hs : List Happening). AllTell (Moved before next) hs) (sym steps.told_is) all) in
     record { floor = m.floor; done = m.done; now = ap (λ (s : LineState). s.world.floor) steps.after_is ∙ m.now }
+
+-- of a track
+pub track_moved : (number : ℕ) (line : TrackLine) (before after : LineState) (told : List Happening) (gap : ℕ) (step : Move)
+    → TrackSteps number line before after told → IsTold (happenings.Moved gap step) told → Moved before after gap step
+track_moved number (own_line line) before after told gap step steps is = line_moved number line before after told gap step steps is
+track_moved number other_line before after told gap step steps is = elim (subst (λ (hs : List Happening). IsTold (happenings.Moved gap step) hs) steps.1 is) [ ]
 
 -- ---- the move `left`
 

@@ -3,7 +3,6 @@ use Rattle.std.proofs.Common.{Bool, List, None, Option, Some, [], ap, arith, fal
 use Rattle.std.specs.Prelude.{cond}
 use Rattle.std.proofs.lemmas.Bool.{false≢true}
 use Rattle.line_world.specs.declared.moves.Move.TheVariants as moves
-use Rattle.line_script.specs.declared.line.ScriptLine.{ScriptLine}
 use Rattle.line_report.specs.declared.happening.Happening.{Happening}
 use Rattle.line_report.specs.declared.happening.Happening.TheVariants as happenings
 use Rattle.node_core.specs.Done.{Done}
@@ -15,7 +14,7 @@ use Rattle.node_core.specs.declared.act.Deed.TheVariants as deeds
 use Rattle.node_core.specs.declared.lane.Body.{Body}
 use Rattle.standings.specs.Ledger.{are_different}
 use Rattle.standings.specs.Marks.{is_held}
-use Rattle.line_step.specs.Lines.{LineSteps}
+use Rattle.line_step.specs.Tracks.{TrackLine, TrackSteps}
 use Rattle.line_step.specs.Numbered.{node_at}
 use Rattle.line_step.specs.Runs.{IsRun, Point}
 use Rattle.line_step.specs.State.{LineState, no_line, owned_by}
@@ -31,9 +30,9 @@ use Rattle.one_standing.proofs.LedgerWalk.{Did, step_did}
 use Rattle.one_standing.proofs.LineForms.{ConnectsBear}
 use Rattle.one_standing.proofs.LineRun.{AreStood, Stood, none_stood, run_stood}
 use Rattle.line_history.proofs.Started.{Any, any_new}
-use Rattle.line_history.proofs.View.{Turn, done_act, done_by, has_stepped, is_still, line_turn, told_of_act, undriven}
+use Rattle.line_history.proofs.View.{Turn, done_act, done_by, has_stepped, is_still, told_of_act, track_turn, undriven}
 use Rattle.first_in_first_out.specs.Order.{FirstInFirstOut, GoesInOrder, KeepsOrder, MovesTheFirst, held_and_kept, leaves, order_behind, order_by, order_of, order_with}
-use Rattle.first_in_first_out.proofs.Moves.{MadeLeft, left_made, line_moved}
+use Rattle.first_in_first_out.proofs.Moves.{MadeLeft, left_made, track_moved}
 use Rattle.first_in_first_out.proofs.Queue.{AreFirst, Queues, after_both, did_queues, order_after, queue_of}
 
 -- ---- the acts of one machine among all that is told
@@ -103,10 +102,10 @@ held_by id (Some mine) is = let same : mine ≡ id = eqb-true mine id is in ap (
 first_held : (id : ℕ) (held : Option ℕ) (kept : List ℕ) → held ≡ Some id → slice_get (one_of held ++ kept) 0 ≡ Some id
 first_held id held kept is = ap (λ (h : Option ℕ). slice_get (one_of h ++ kept) 0) is
 
-line_moves : SaysAlone → (number : ℕ) (line : ScriptLine) (before after : LineState) (told : List Happening) (machine : ℕ) → Stood before → LineSteps number line before after told
+line_moves : SaysAlone → (number : ℕ) (line : TrackLine) (before after : LineState) (told : List Happening) (machine : ℕ) → Stood before → TrackSteps number line before after told
     → IsTold (happenings.Moved machine moves.Left) told → MovesTheFirst machine (held_and_kept before machine) before after
 line_moves alone number line before after told machine was steps is =
-    let made : MadeLeft machine before after = left_made machine before after was.stands.ids.whole (line_moved number line before after told machine moves.Left steps is) in
+    let made : MadeLeft machine before after = left_made machine before after was.stands.ids.whole (track_moved number line before after told machine moves.Left steps is) in
     let facts : HasCustodyFacts before = facts_of alone was.trace before was.stands was.waits in
     let by = facts.begun machine made.board made.begun in
     let held : (owned_by (node_at before machine)).held ≡ Some by.id = held_by by.id (owned_by (node_at before machine)).held by.held in
@@ -120,11 +119,11 @@ line_moves alone number line before after told machine was steps is =
       first = first_held by.id (owned_by (node_at before machine)).held (owned_by (node_at before machine)).kept held;
     }
 
-order_at : SaysAlone → (number : ℕ) (line : ScriptLine) (before after : LineState) (told : List Happening) (j : ℕ) → Stood before → LineSteps number line before after told
+order_at : SaysAlone → (number : ℕ) (line : TrackLine) (before after : LineState) (told : List Happening) (j : ℕ) → Stood before → TrackSteps number line before after told
     → GoesInOrder (j + 1) (held_and_kept before (j + 1)) before after told
 order_at alone number line before after told j was steps =
     let queues : Queues (held_and_kept before (j + 1)) (done_by (j + 1) told) (held_and_kept after (j + 1)) =
-    turn_queues was.trace j before after told (differ_of (j + 1) was.stands) (line_turn alone was.trace number line before after told was.stands steps j) in
+    turn_queues was.trace j before after told (differ_of (j + 1) was.stands) (track_turn alone was.trace number line before after told was.stands steps j) in
     record {
       records = sym (order_done (j + 1) (held_and_kept before (j + 1)) told ∙ queues.leads);
       leaves_first = λ earlier later id is. first_at (j + 1) id (held_and_kept before (j + 1)) earlier later
@@ -133,7 +132,7 @@ order_at alone number line before after told j was steps =
     }
 
 -- EACH LINE
-pub line_in_order : SaysAlone → (number : ℕ) (line : ScriptLine) (before after : LineState) (told : List Happening) (machine : ℕ) → 1 ≤ machine → Stood before → LineSteps number line before after told
+pub line_in_order : SaysAlone → (number : ℕ) (line : TrackLine) (before after : LineState) (told : List Happening) (machine : ℕ) → 1 ≤ machine → Stood before → TrackSteps number line before after told
     → GoesInOrder machine (held_and_kept before machine) before after told
 line_in_order alone number line before after told machine counted was steps =
     let is : machine - 1 + 1 ≡ machine = omega (arith, counted) in
@@ -145,7 +144,7 @@ behind_both : (machine : ℕ) (order : List ℕ) (a b : List Happening) → orde
 behind_both machine order [] b = refl
 behind_both machine order (h ∷ a) b = behind_both machine (order_by machine order h) a b
 
-run_in_order : SaysAlone → (machine : ℕ) (past : List Happening) (s : LineState) (asked : List ScriptLine) (points : List Point) (n : ℕ) → 1 ≤ machine → Stood s → IsRun s asked points → AreStood (take n points)
+run_in_order : SaysAlone → (machine : ℕ) (past : List Happening) (s : LineState) (asked : List TrackLine) (points : List Point) (n : ℕ) → 1 ≤ machine → Stood s → IsRun s asked points → AreStood (take n points)
     → held_and_kept s machine ≡ order_of machine past → KeepsOrder machine past s (take n points)
 run_in_order alone machine past s asked points zero counted was run all is = tt
 run_in_order alone machine past s [] [] (suc n) counted was run all is = tt

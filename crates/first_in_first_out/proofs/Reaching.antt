@@ -1,5 +1,6 @@
 -- The order of each machine, over the next line behind a run.
 use Rattle.std.proofs.Common.{◌+◌}
+use Rattle.line_step.specs.Tracks.{own_line}
 use Rattle.one_standing.proofs.Carrying.{SaysAlone}
 use Rattle.one_standing.proofs.LineForms.{ConnectsBear}
 use Rattle.one_standing.proofs.LineRun.{Stood}
@@ -10,4 +11,4 @@ use Rattle.first_in_first_out.proofs.Orders.{line_in_order}
 pub order_along : SaysAlone → ConnectsBear → OrderAlong
 order_along alone connects line before after told reached steps none =
     let was : Stood before = stood_before alone connects line before after told reached steps none in
-    record { each = λ machine counted. line_in_order alone (before.lines + 1) line before after told machine counted was steps }
+    record { each = λ machine counted. line_in_order alone (before.lines + 1) (own_line line) before after told machine counted was steps }

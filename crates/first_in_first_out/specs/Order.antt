@@ -8,7 +8,6 @@ use Rattle.line_world.specs.FloorPlan.{gap_at}
 use Rattle.line_world.specs.declared.board.Board.{Board}
 use Rattle.line_world.specs.declared.gap.Gap.TheVariants as gaps
 use Rattle.line_world.specs.declared.moves.Move.TheVariants as moves
-use Rattle.line_script.specs.declared.line.ScriptLine.{ScriptLine}
 use Rattle.node_core.specs.Own.{one_of, with_id_instead, without_id}
 use Rattle.node_core.specs.declared.act.Act.{Act}
 use Rattle.node_core.specs.declared.act.Act.TheVariants as acts
@@ -17,9 +16,10 @@ use Rattle.line_report.specs.declared.happening.Happening.{Happening}
 use Rattle.line_report.specs.declared.happening.Happening.TheVariants as happenings
 use Rattle.line_step.specs.Lies.{has_lie}
 use Rattle.line_step.specs.Numbered.{node_at}
+use Rattle.line_step.specs.Tracks.{TrackLine}
 use Rattle.line_step.specs.Runs.{IsRun, Point, IsShort}
 use Rattle.line_step.specs.State.{LineState, no_line, owned_by}
-use Rattle.one_standing.specs.Standing.{IsFitLine}
+use Rattle.one_standing.specs.Standing.{IsFitTrack}
 use Rattle.one_standing.specs.Told.{IsTold}
 
 -- ---- the order of a machine
@@ -102,7 +102,7 @@ KeepsOrder machine past s (point ∷ points) =
 -- lines, and its barcodes are texts
 abbrev pub FirstInFirstOut : Type 0
 FirstInFirstOut =
-    (asked : List ScriptLine) (points : List Point) (n machine : ℕ)
-    → AllByRecursion IsFitLine asked → IsShort no_line points
+    (asked : List TrackLine) (points : List Point) (n machine : ℕ)
+    → AllByRecursion IsFitTrack asked → IsShort no_line points
     → IsRun no_line asked points → has_lie (take n points) ≡ false → 1 ≤ machine
     → KeepsOrder machine [] no_line (take n points)

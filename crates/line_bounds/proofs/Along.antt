@@ -4,6 +4,7 @@ use Rattle.std.specs.Prelude.{slice_get}
 use Rattle.line_base.specs.declared.states.Side.{Side}
 use Rattle.line_base.specs.declared.states.Side.TheVariants.{Entry, Exit}
 use Rattle.board_record.specs.Maker.{Maker, next_id}
+use Rattle.hermes_stream.specs.Frames.{most_bytes}
 use Rattle.forecast_query.specs.Forecasts.{most_forecasts}
 use Rattle.supervisory_core.specs.declared.order.Order.{Order}
 use Rattle.supervisory_core.specs.Orders.{most_open, unanswered}
@@ -17,6 +18,7 @@ use Rattle.node_core.specs.declared.input.Input.TheVariants as inputs
 use Rattle.node_core.specs.declared.lane.Body.{Body}
 use Rattle.node_core.specs.declared.word.Word.{Word}
 use Rattle.node_core.specs.Event.{event_of}
+use Rattle.node_core.specs.declared.lane.Lane.{Lane}
 use Rattle.node_core.specs.Node.{NodeState, desk_of, new_node}
 use Rattle.node_core.specs.Sides.{is_open}
 use Rattle.node_core.specs.Sound.{IsSound}
@@ -28,6 +30,7 @@ use Rattle.line_step.specs.State.{LineState, machine_in, no_line, one_more, prof
 use Rattle.line_step.specs.Steps.{MachineSteps, moment_of, unread_by}
 use Rattle.line_step.specs.Lines.{LineSteps, arrived, connecting, met}
 use Rattle.line_step.specs.Opened.{opened_by}
+use Rattle.line_step.specs.Tracks.{AreBesideNodes, IsBeside, IsBesideNode, TrackLine, TrackSteps, other_line, own_line}
 use Rattle.line_step.specs.Runs.{Point, IsRun, state_behind}
 use Rattle.line_step.proofs.Getting.{get_may}
 use Rattle.line_step.proofs.Numbers.{machine_set_other, machine_set_own, machine_within, same_or_not}
@@ -186,13 +189,45 @@ steps_all number line before after told steps all =
     let count : LineState = record next { lines = steps.lines } in
     subst AllHold (sym steps.after_is) (same_all next count refl (turn_all number (request_of line) before next steps.done (line_turns number line before next steps.done steps.does) all))
 
+-- a line of another track
+beside_has : (node now : NodeState) → IsBesideNode node now → Has node → Has now
+beside_has node now beside has =
+    let was = has.holds in
+    let sound : IsSound now.capacity now.lane.body = subst (λ (most : ℕ). IsSound most now.lane.body) (sym beside.capacity) (subst (λ (l : Lane). IsSound node.capacity l.body) (sym beside.lane) has.sound) in
+    record {
+      sound = sound;
+      holds = record {
+        unspent = beside.spent ∙ was.unspent;
+        places = sound.places;
+        forecasts = subst (λ (kept : List Info). length kept ≤ most_forecasts) (sym beside.forecasts) was.forecasts;
+        questions = subst (λ (orders : List Order). unanswered orders ≤ most_open) (sym beside.orders) was.questions;
+        entry = subst (λ (l : Lane). is_open Entry l.body ≡ true → length l.entry_bytes ≤ most_bytes) (sym beside.lane) was.entry;
+        exit = subst (λ (l : Lane). is_open Exit l.body ≡ true → length l.exit_bytes ≤ most_bytes) (sym beside.lane) was.exit;
+      };
+    }
+
+beside_hold : (nodes others : List NodeState) (place : ℕ) → AreBesideNodes nodes others → Holds (slice_get nodes place) → Holds (slice_get others place)
+beside_hold [] [] place are held = held
+beside_hold [] (other ∷ others) place are held = absurd are
+beside_hold (node ∷ nodes) [] place are held = absurd are
+beside_hold (node ∷ nodes) (other ∷ others) zero are held = is_there (beside_has node other are.0 (holds_there (Some node) node refl held))
+beside_hold (node ∷ nodes) (other ∷ others) (suc place) are held = beside_hold nodes others place are.1 held
+
+beside_all : (before after : LineState) → IsBeside before after → AllHold before → AllHold after
+beside_all before after is all zero = not_there
+beside_all before after is all (suc place) = beside_hold before.machines after.machines place is.machines (all (suc place))
+
+track_all : (number : ℕ) (line : TrackLine) (before after : LineState) (told : List Happening) → TrackSteps number line before after told → AllHold before → AllHold after
+track_all number (own_line line) before after told steps all = steps_all number line before after told steps all
+track_all number other_line before after told steps all = beside_all before after steps.0 all
+
 -- ---- over a run
 
-run_all : (s : LineState) (asked : List ScriptLine) (points : List Point) → IsRun s asked points → AllHold s → AllHold (state_behind s points)
+run_all : (s : LineState) (asked : List TrackLine) (points : List Point) → IsRun s asked points → AllHold s → AllHold (state_behind s points)
 run_all s [] [] run all = all
 run_all s [] (point ∷ points) run all = absurd run
 run_all s (line ∷ asked) [] run all = absurd run
-run_all s (line ∷ asked) (point ∷ points) run all = run_all point.after asked points run.1 (steps_all (s.lines + 1) line s point.after point.told run.0 all)
+run_all s (line ∷ asked) (point ∷ points) run all = run_all point.after asked points run.1 (track_all (s.lines + 1) line s point.after point.told run.0 all)
 
 none_hold : AllHold no_line
 none_hold zero = not_there

@@ -20,6 +20,7 @@ use Rattle.node_core.specs.declared.input.Input.{Input}
 use Rattle.node_core.specs.declared.input.Input.TheVariants as inputs
 use Rattle.line_step.specs.Acts.{act_did, acts_did, counted, is_answer, is_exit, sent_by}
 use Rattle.line_step.specs.Lines.{Connects, Flows, LineSteps, arrived, connecting, met}
+use Rattle.line_step.specs.Tracks.{TrackLine, TrackSteps, other_line, own_line}
 use Rattle.line_step.specs.Runs.{IsRun, Point, state_behind}
 use Rattle.line_step.specs.State.{LineState, no_line, one_more}
 use Rattle.line_step.specs.Steps.{MachineSteps, is_second, read_by}
@@ -171,13 +172,18 @@ steps_within number line before after told steps all =
     subst (λ (s : LineState). AreLinksWithin s) (sym steps.after_is)
     (effect_within number (request_of line) before steps.next steps.done (line_effect number line before steps.next steps.done steps.does) all)
 
+-- a line of another track changes no link
+track_within : (number : ℕ) (line : TrackLine) (before after : LineState) (told : List Happening) → TrackSteps number line before after told → AreLinksWithin before → AreLinksWithin after
+track_within number (own_line line) before after told steps all = steps_within number line before after told steps all
+track_within number other_line before after told steps all = λ link. subst (λ (w : WorldParts). IsLinkWithin (link_at link w)) (sym steps.0.world) (all link)
+
 -- ---- over a run
 
-run_within : (s : LineState) (asked : List ScriptLine) (points : List Point) → IsRun s asked points → AreLinksWithin s → AreLinksWithin (state_behind s points)
+run_within : (s : LineState) (asked : List TrackLine) (points : List Point) → IsRun s asked points → AreLinksWithin s → AreLinksWithin (state_behind s points)
 run_within s [] [] run all = all
 run_within s [] (point ∷ points) run all = absurd run
 run_within s (line ∷ asked) [] run all = absurd run
-run_within s (line ∷ asked) (point ∷ points) run all = run_within point.after asked points run.1 (steps_within (s.lines + 1) line s point.after point.told run.0 all)
+run_within s (line ∷ asked) (point ∷ points) run all = run_within point.after asked points run.1 (track_within (s.lines + 1) line s point.after point.told run.0 all)
 
 no_line_within : AreLinksWithin no_line
 no_line_within zero = none_within

@@ -6,10 +6,10 @@ use Rattle.forecast_query.specs.Forecasts.{most_forecasts}
 use Rattle.supervisory_core.specs.Orders.{most_open, unanswered}
 use Rattle.line_link.specs.Flow.{coming}
 use Rattle.line_link.specs.Link.{LinkParts, most_in_flight}
-use Rattle.line_script.specs.declared.line.ScriptLine.{ScriptLine}
 use Rattle.node_core.specs.Node.{NodeState}
 use Rattle.node_core.specs.Places.{used}
 use Rattle.node_core.specs.Sides.{is_open}
+use Rattle.line_step.specs.Tracks.{TrackLine}
 use Rattle.line_step.specs.Runs.{IsRun, Point, state_behind}
 use Rattle.line_step.specs.State.{LineState, machine_in, no_line}
 use Rattle.line_step.specs.World.{link_at}
@@ -48,10 +48,10 @@ pub record IsBounded (s : LineState) : Type 0 where
 -- THE LAWS: behind every run of a script
 abbrev pub EachMachineStaysWithin : Type 0
 EachMachineStaysWithin =
-    (asked : List ScriptLine) (points : List Point) → IsRun no_line asked points
+    (asked : List TrackLine) (points : List Point) → IsRun no_line asked points
     → StaysWithin (state_behind no_line points)
 
 abbrev pub EachLinkStaysWithin : Type 0
 EachLinkStaysWithin =
-    (asked : List ScriptLine) (points : List Point) → IsRun no_line asked points
+    (asked : List TrackLine) (points : List Point) → IsRun no_line asked points
     → AreLinksWithin (state_behind no_line points)

@@ -1,42 +1,43 @@
 -- What the laws over runs say of the line behind a run.
-use Rattle.std.proofs.Common.{List, None, Option, ap, append-nil, append_assoc, arith, false, length, subst, sym, ℕ, [], ◌++◌, ◌+◌, ◌∙◌, ◌∷◌, ◌≡◌, ◌≤◌}
+use Rattle.std.proofs.Common.{List, None, ap, append-nil, append_assoc, arith, false, length, subst, sym, ℕ, [], ◌++◌, ◌+◌, ◌∙◌, ◌∷◌, ◌≡◌, ◌≤◌}
 use Rattle.std.proofs.lemmas.List.{take_all}
-use Rattle.std.specs.Prelude.{is_some, take}
+use Rattle.std.specs.Prelude.{take}
 use Rattle.std.specs.List.{AllByRecursion}
 use Rattle.line_script.specs.declared.line.ScriptLine.{ScriptLine}
 use Rattle.line_report.specs.declared.happening.Happening.{Happening}
 use Rattle.line_step.specs.Lies.{has_lie}
 use Rattle.line_step.specs.Lines.{LineSteps}
+use Rattle.line_step.specs.Tracks.{TrackLine, own_line}
 use Rattle.line_step.specs.Runs.{IsRun, IsShort, Point, state_behind, all_told}
 use Rattle.line_step.specs.State.{LineState, no_line}
 use Rattle.line_step.proofs.Running.{short-behind, short-more}
-use Rattle.line_step.proofs.Vouching.{lies_remembered}
+use Rattle.line_step.proofs.Vouching.{none_lied}
 use Rattle.one_standing.specs.Blame.{AreBlamesTrue, IsBlameTrue, NoFalseBlame}
 use Rattle.contents_kept.specs.Records.{AreContentsKept, ContentsAreKept, IsChanged, KeepsContents}
 use Rattle.one_standing.specs.Reached.{IsReached}
-use Rattle.one_standing.specs.Standing.{IsFitLine}
+use Rattle.one_standing.specs.Standing.{IsFitLine, IsFitTrack}
 use Rattle.one_standing.proofs.Reaching.{behind_more, run_more, fit_more}
 use Rattle.line_engine.specs.Blames.{BlamesNext}
 
 -- ---- a run with the line behind it, as the laws ask for it
 
-record Longer (line : ScriptLine) (after : LineState) (told : List Happening) (asked : List ScriptLine) (points : List Point) : Type 0 where
-  fit : AllByRecursion IsFitLine (asked ++ line ∷ [])
+record Longer (line : ScriptLine) (after : LineState) (told : List Happening) (asked : List TrackLine) (points : List Point) : Type 0 where
+  fit : AllByRecursion IsFitTrack (asked ++ own_line line ∷ [])
   few : IsShort no_line (points ++ record { told = told; after = after } ∷ [])
-  run : IsRun no_line (asked ++ line ∷ []) (points ++ record { told = told; after = after } ∷ [])
+  run : IsRun no_line (asked ++ own_line line ∷ []) (points ++ record { told = told; after = after } ∷ [])
   honest : has_lie (points ++ record { told = told; after = after } ∷ []) ≡ false
 
-longer : (line : ScriptLine) (before after : LineState) (told : List Happening) (asked : List ScriptLine) (points : List Point) → IsFitLine line → before.lines + 1 ≤ 1000000 → LineSteps (before.lines + 1) line before after told → after.unvouched ≡ None
-    → AllByRecursion IsFitLine asked → IsRun no_line asked points → state_behind no_line points ≡ before → Longer line after told asked points
+longer : (line : ScriptLine) (before after : LineState) (told : List Happening) (asked : List TrackLine) (points : List Point) → IsFitLine line → before.lines + 1 ≤ 1000000 → LineSteps (before.lines + 1) line before after told → after.unvouched ≡ None
+    → AllByRecursion IsFitTrack asked → IsRun no_line asked points → state_behind no_line points ≡ before → Longer line after told asked points
 longer line before after told asked points one few steps none fit run behind =
     let point : Point = record { told = told; after = after } in
-    let more : IsRun no_line (asked ++ line ∷ []) (points ++ point ∷ []) = run_more no_line asked points line point run (subst (λ (s : LineState). LineSteps (s.lines + 1) line s after told) (sym behind) steps) in
+    let more : IsRun no_line (asked ++ own_line line ∷ []) (points ++ point ∷ []) = run_more no_line asked points (own_line line) point run (subst (λ (s : LineState). LineSteps (s.lines + 1) line s after told) (sym behind) steps) in
     let within : (state_behind no_line points).lines + 1 ≤ 1000000 = subst (λ (s : LineState). s.lines + 1 ≤ 1000000) (sym behind) few in
     record {
-      fit = fit_more asked line fit one;
+      fit = fit_more asked (own_line line) fit one;
       few = short-more no_line points point (short-behind no_line asked points run within) within;
       run = more;
-      honest = sym (lies_remembered (asked ++ line ∷ []) (points ++ point ∷ []) more) ∙ ap (λ (s : LineState). is_some s.unvouched) (behind_more no_line points point) ∙ ap (λ (o : Option ℕ). is_some o) none;
+      honest = none_lied (asked ++ own_line line ∷ []) (points ++ point ∷ []) more (ap (λ (s : LineState). s.unvouched) (behind_more no_line points point) ∙ none);
     }
 
 -- all of the points
@@ -55,7 +56,7 @@ contents_line law line before after told was one few steps none =
     let point : Point = record { told = told; after = after } in
     let l : Longer line after told was.asked was.points = longer line before after told was.asked was.points one few steps none was.fit was.run was.behind in
     let points : List Point = was.points ++ point ∷ [] in
-    let all : AreContentsKept no_line points = subst (λ (ps : List Point). AreContentsKept no_line ps) (all_points points) (law (was.asked ++ line ∷ []) points (length points) l.fit l.few l.run (subst (λ (ps : List Point). has_lie ps ≡ false) (sym (all_points points)) l.honest)) in
+    let all : AreContentsKept no_line points = subst (λ (ps : List Point). AreContentsKept no_line ps) (all_points points) (law (was.asked ++ own_line line ∷ []) points (length points) l.fit l.few l.run (subst (λ (ps : List Point). has_lie ps ≡ false) (sym (all_points points)) l.honest)) in
     subst (λ (s : LineState). KeepsContents (IsChanged told) s after) was.behind (contents_last no_line was.points point all)
 
 -- ---- blame
@@ -69,5 +70,5 @@ blames_line law line before after told one few steps none = record {
   behind = λ asked past fit run behind. (let point : Point = record { told = told; after = after } in
       let l : Longer line after told asked past = longer line before after told asked past one few steps none fit run behind in
       let points : List Point = past ++ point ∷ [] in
-      blame_last [] past point (subst (λ (ps : List Point). AreBlamesTrue [] ps) (all_points points) (law (asked ++ line ∷ []) points (length points) l.fit l.few l.run (subst (λ (ps : List Point). has_lie ps ≡ false) (sym (all_points points)) l.honest))));
+      blame_last [] past point (subst (λ (ps : List Point). AreBlamesTrue [] ps) (all_points points) (law (asked ++ own_line line ∷ []) points (length points) l.fit l.few l.run (subst (λ (ps : List Point). has_lie ps ≡ false) (sym (all_points points)) l.honest))));
 }

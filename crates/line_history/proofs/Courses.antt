@@ -6,6 +6,7 @@ use Rattle.one_standing.proofs.HandSteps.{changed_untouched, marks_one, subs_one
 use Rattle.board_record.specs.Maker.{Maker, next_id}
 use Rattle.board_record.specs.declared.maker.IdsUsedUp.{IdsUsedUp}
 use Rattle.line_script.specs.declared.line.ScriptLine.{ScriptLine}
+use Rattle.line_script.specs.declared.line.ScriptLine.TheVariants as lines
 use Rattle.node_core.specs.Event.{Event, event_of, with_new}
 use Rattle.node_core.specs.Event as events
 use Rattle.node_core.specs.Node.{NodeState}
@@ -13,6 +14,7 @@ use Rattle.node_core.specs.declared.input.Input.{Input}
 use Rattle.node_core.specs.declared.input.Input.TheVariants as inputs
 use Rattle.node_core.specs.declared.word.Word.{Word}
 use Rattle.line_report.specs.declared.happening.Happening.{Happening}
+use Rattle.line_step.specs.Tracks.{TrackLine, TrackSteps, asked_on, other_line, own_line}
 use Rattle.line_step.specs.Lines.{LineSteps}
 use Rattle.line_step.specs.Numbered.{node_at}
 use Rattle.line_step.specs.Reasons.{may_do}
@@ -20,7 +22,7 @@ use Rattle.line_step.specs.State.{LineState, machine_in}
 use Rattle.line_step.specs.Steps.{MachineSteps}
 use Rattle.line_history.proofs.OfferingStep.{IsNoHand}
 use Rattle.line_history.proofs.OfferingWhole.{IsMarkable}
-use Rattle.line_history.proofs.View.{IsJoining, SteppedBy, TurnBy, each_turn}
+use Rattle.line_history.proofs.View.{IsJoining, SteppedBy, TurnBy, each_turn, beside_turn}
 use Rattle.line_step.proofs.Requests.{Request, may_get, request_of}
 use Rattle.line_step.proofs.Getting.{get_may}
 use Rattle.line_step.proofs.Requests as requests
@@ -117,3 +119,7 @@ line_course number line before after told steps j = each_turn (BefallsAt j line 
   joining = λ input joins maker words. plainly (no_hand maker input words (joining_plain input joins));
   arriving = λ side count may flows. plainly (no_hand flows.steps.node.maker (inputs.Bytes side flows.piece) flows.steps.steps.lane.words tt);
 })
+
+pub track_course : (number : ℕ) (line : TrackLine) (before after : LineState) (told : List Happening) → TrackSteps number line before after told → (j : ℕ) → Course j (asked_on line) before after told
+track_course number (own_line line) before after told steps j = line_course number line before after told steps j
+track_course number other_line before after told steps j = beside_turn (BefallsAt j lines.Blank before) before after told j steps.0 steps.1

@@ -7,7 +7,6 @@ use mathlib.Core.Bool.{and-false}
 use Rattle.line_base.specs.declared.states.Side.TheVariants.{Exit}
 use Rattle.board_record.specs.declared.sensed.Sensed.{Sensed}
 use Rattle.board_record.specs.declared.record.Record.{Record}
-use Rattle.line_script.specs.declared.line.ScriptLine.{ScriptLine}
 use Rattle.line_world.specs.FloorPlan.{machine_at}
 use Rattle.handover_out.specs.State.{board_of_phase as held_out}
 use Rattle.handover_in.specs.declared.phase.Phase.{Phase as In}
@@ -28,12 +27,12 @@ use Rattle.custody.specs.Words.{events_at}
 use Rattle.custody.proofs.Promised.{one_record}
 use Rattle.machine_custody.specs.Good.{Lies}
 use Rattle.line_step.specs.FloorIds.{boards_of, made_by}
-use Rattle.line_step.specs.Lines.{LineSteps}
+use Rattle.line_step.specs.Tracks.{TrackLine, TrackSteps}
 use Rattle.line_step.specs.Numbered.{node_at}
 use Rattle.line_step.specs.Runs.{IsRun, Point}
 use Rattle.line_step.specs.State.{LineState, no_line}
 use Rattle.line_step.specs.Steps.{unread_by}
-use Rattle.line_step.proofs.FloorLaws.{Goes, steps-goes}
+use Rattle.line_step.proofs.FloorLaws.{Goes, track-goes}
 use Rattle.line_step.proofs.Makers.{IsOld}
 use Rattle.one_standing.specs.Carried.{Trace, between_of, stand_of}
 use Rattle.one_standing.specs.Places.{at_machine, lies_at}
@@ -53,7 +52,7 @@ use Rattle.line_history.proofs.Leaving.{leaves_told, none_leave}
 use Rattle.line_history.proofs.Said.{said_then}
 use Rattle.line_history.proofs.SettledRun.{IsInAt, Told, acts_append, line_told, none_knows, stepped_does}
 use Rattle.line_history.proofs.Stepping.{IsJustStarted, StepDoes, is_leaving as leaves_now, leaving_append, tells_leaving}
-use Rattle.line_history.proofs.View.{Kind, Stays, Stepped, Turn, done_act, done_by, has_stepped, is_still, line_kind, line_turn, told_of_act, undriven, unwilled}
+use Rattle.line_history.proofs.View.{Kind, Stays, Stepped, Turn, done_act, done_by, has_stepped, is_still, track_kind, track_turn, told_of_act, undriven, unwilled}
 use Rattle.line_history.proofs.Where.{IsBeyond, WhereAlone, alone_beyond, alone_gone, alone_kept, is_across, is_inside_there, kept_above, not_above, unread_leaves, where_alone, where_started}
 
 -- ---- what is told of leaving
@@ -273,13 +272,13 @@ line_follows_by j last t t2 before after told r st st2 goes all turns (inr stays
 none_taken : {X : Type 0} (t : Trace) (s : LineState) (r : Record) → Stands t s → taken_below s 0 ≡ Some r → X
 none_taken t s r st taken = absurd (let no : ◌≡◌ {A = Option Record} None (Some r) = sym (ap held_in (st.rest 0 refl).intake) ∙ taken in cc)
 
-line_follows : SaysAlone → (gap : ℕ) (last : Option Record) (number : ℕ) (line : ScriptLine) (before after : LineState) (told : List Happening) → Stood before → Stood after → LineSteps number line before after told → AllFollow before gap last → AllFollow after gap (let_go gap last before told)
+line_follows : SaysAlone → (gap : ℕ) (last : Option Record) (number : ℕ) (line : TrackLine) (before after : LineState) (told : List Happening) → Stood before → Stood after → TrackSteps number line before after told → AllFollow before gap last → AllFollow after gap (let_go gap last before told)
 line_follows alone zero last number line before after told was now steps all r taken = none_taken now.trace after r now.stands taken
 line_follows alone (suc j) last number line before after told was now steps all r taken =
     let gap : j + 1 ≡ suc j = omega arith in
-    let goes : Goes before after told = steps-goes number line before after told was.stands.ids steps in
+    let goes : Goes before after told = track-goes number line before after told was.stands.ids steps in
     subst (λ (g : ℕ). AllFollow before g last → taken_below after g ≡ Some r → Follows after g (let_go g last before told) r) gap
-    (λ follows takes. line_follows_by j last was.trace now.trace before after told r was.stands now.stands goes follows (line_turn alone was.trace number line before after told was.stands steps) (line_kind number line before after told steps) takes) all taken
+    (λ follows takes. line_follows_by j last was.trace now.trace before after told r was.stands now.stands goes follows (track_turn alone was.trace number line before after told was.stands steps) (track_kind number line before after told steps) takes) all taken
 
 -- ---- what settles
 
@@ -306,7 +305,7 @@ what_left t (suc j) id last s st all is =
     let gap : j + 1 ≡ suc j = omega arith in
     subst (λ (g : ℕ). AllFollow s g last → IsInAt g s id → IsWhatLeft g id last s) gap (λ follows so. left_by t j id last s st follows so) all is
 
-line_settles : SaysAlone → (gap : ℕ) (h : Hearing) (last : Option Record) (number : ℕ) (line : ScriptLine) (before after : LineState) (told : List Happening) → Stood before → LineSteps number line before after told → Told gap h before after told → AllFollow before gap last
+line_settles : SaysAlone → (gap : ℕ) (h : Hearing) (last : Option Record) (number : ℕ) (line : TrackLine) (before after : LineState) (told : List Happening) → Stood before → TrackSteps number line before after told → Told gap h before after told → AllFollow before gap last
     → (earlier later : List Happening) (id : ℕ) → told ≡ earlier ++ settles_at gap id ∷ later → IsWhatLeft gap id last before
 line_settles alone gap h last number line before after told was steps t all earlier later id is =
     let so : entry_acts (gap + 1) told ≡ entry_acts (gap + 1) earlier ++ settles id ∷ entry_acts (gap + 1) later = ap (entry_acts (gap + 1)) is ∙ settled_at (gap + 1) id earlier later in
@@ -314,7 +313,7 @@ line_settles alone gap h last number line before after told was steps t all earl
 
 -- ---- along a run
 
-run_keeps : SaysAlone → (gap : ℕ) (h : Hearing) (last : Option Record) (s : LineState) (asked : List ScriptLine) (points : List Point) (n : ℕ) → Stood s → IsRun s asked points → AreStood (take n points) → Knows h (node_at s (gap + 1)).lane.body.intake → AllFollow s gap last
+run_keeps : SaysAlone → (gap : ℕ) (h : Hearing) (last : Option Record) (s : LineState) (asked : List TrackLine) (points : List Point) (n : ℕ) → Stood s → IsRun s asked points → AreStood (take n points) → Knows h (node_at s (gap + 1)).lane.body.intake → AllFollow s gap last
     → KeepsWhatLeft gap last s (take n points)
 run_keeps alone gap h last s asked points zero was run all k follows = tt
 run_keeps alone gap h last s [] [] (suc n) was run all k follows = tt

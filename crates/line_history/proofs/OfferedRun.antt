@@ -23,11 +23,12 @@ use Rattle.custody.specs.Contents.{Kept, kept_first}
 use Rattle.machine_custody.proofs.Keeping.{kept_lies}
 use Rattle.line_step.specs.FloorIds.{boards_of}
 use Rattle.line_step.specs.Lines.{LineSteps}
+use Rattle.line_step.specs.Tracks.{TrackLine, TrackSteps, asked_on}
 use Rattle.line_step.specs.Numbered.{node_at}
 use Rattle.line_step.specs.Runs.{IsRun, Point}
 use Rattle.line_step.specs.State.{LineState, no_line}
 use Rattle.line_step.specs.Steps.{unread_by}
-use Rattle.line_step.proofs.FloorLaws.{Goes, steps-goes}
+use Rattle.line_step.proofs.FloorLaws.{Goes, track-goes}
 use Rattle.one_standing.specs.Carried.{Trace, between_of, stand_of}
 use Rattle.one_standing.specs.Mirrors.{scene_at}
 use Rattle.one_standing.specs.Places.{LiesAt, at_machine, lies_at}
@@ -41,7 +42,7 @@ use Rattle.one_standing.proofs.LineForms.{ConnectsBear}
 use Rattle.one_standing.proofs.LineRun.{AreStood, Stood, none_stood, run_stood}
 use Rattle.line_history.specs.LetGo.{IsWhatLeft, KeepsWhatLeft, held_above, is_leaving, let_go, settles_at}
 use Rattle.line_history.specs.Offered.{IsAsOffered, IsLast, KeepsAsOffered, Offering, WhatSettlesWasOffered, is_hand, is_hand_at, none_offered, offered_gone, offers_act, offers_happening, offers_told, tells_hand}
-use Rattle.line_history.proofs.Courses.{Acted, Befalls, Course, IsByHand, by_hand, line_course, plainly}
+use Rattle.line_history.proofs.Courses.{Acted, Befalls, Course, IsByHand, by_hand, line_course, plainly, track_course}
 use Rattle.line_history.proofs.LetGoRun.{what_settles_left}
 use Rattle.line_history.proofs.Offering.{AsOffered, are_hand, hand_append, offers_acts, offers_append, says_ended, says_idle, says_moving, says_offered, says_stuck, settles_act, settles_acts, settles_append}
 use Rattle.line_history.proofs.OfferingStep.{IsNoHand}
@@ -224,12 +225,12 @@ course_offers t t2 j line before after told o st st2 goes h (is_still same none)
     let told_is : offers_told (j + 1) told o ≡ o = offers_told_is (j + 1) told o ∙ ap (λ (x : List Act). offers_acts x o) none in
     subst (λ (b : Body). IsAsOf b (offers_told (j + 1) told o)) (sym same) (subst (λ (x : Offering). IsAsOf (node_at before (j + 1)).lane.body x) (sym told_is) h)
 
-line_offers : (number : ℕ) (line : ScriptLine) (before after : LineState) (told : List Happening) (o : ℕ → Offering) → Stood before → Stood after → LineSteps number line before after told → AllOffered before o → AllOffered after (λ (m : ℕ). offers_told m told (o m))
+line_offers : (number : ℕ) (line : TrackLine) (before after : LineState) (told : List Happening) (o : ℕ → Offering) → Stood before → Stood after → TrackSteps number line before after told → AllOffered before o → AllOffered after (λ (m : ℕ). offers_told m told (o m))
 line_offers number line before after told o was now steps all zero = says_idle
 line_offers number line before after told o was now steps all (suc j) =
     let same : j + 1 ≡ suc j = omega arith in
     subst (λ (m : ℕ). IsAsOf (node_at before m).lane.body (o m) → IsAsOf (node_at after m).lane.body (offers_told m told (o m))) same
-    (λ h. course_offers was.trace now.trace j line before after told (o (j + 1)) was.stands now.stands (steps-goes number line before after told was.stands.ids steps) h (line_course number line before after told steps j)) (all (suc j))
+    (λ h. course_offers was.trace now.trace j (asked_on line) before after told (o (j + 1)) was.stands now.stands (track-goes number line before after told was.stands.ids steps) h (track_course number line before after told steps j)) (all (suc j))
 
 -- ---- what was let go was offered
 
@@ -261,15 +262,15 @@ acted_kept j id line before after told o board h taken among none (has_stepped a
     let same : settles.board ≡ board = same_board (sym settles.held ∙ taken) in
     subst (λ (b : Body). IsLast board b.kept) (sym a.body) (subst (λ (r : Record). IsLast r d.body.kept) same settles.kept)
 
-line_arrives : (gap number id : ℕ) (line : ScriptLine) (last off : Option Record) (o : ℕ → Offering) (before : LineState) (point : Point) (earlier later : List Happening) → AllOffered before o → LineSteps number line before point.after point.told → GoneIsOffered last off → IsWhatLeft gap id last before → point.told ≡ earlier ++ settles_at gap id ∷ later
+line_arrives : (gap number id : ℕ) (line : TrackLine) (last off : Option Record) (o : ℕ → Offering) (before : LineState) (point : Point) (earlier later : List Happening) → AllOffered before o → TrackSteps number line before point.after point.told → GoneIsOffered last off → IsWhatLeft gap id last before → point.told ≡ earlier ++ settles_at gap id ∷ later
     → IsAsOffered gap id off before point
 line_arrives gap number id line last off o before point earlier later all steps gone left is = record {
   board = left.board;
   named = left.named;
   taken = left.taken;
   offered = gone left.board left.left;
-  kept = λ none. acted_kept gap id line before point.after point.told (o (gap + 1)) left.board (all (gap + 1)) left.taken
-      (subst (λ (told : List Happening). IsAmong id (settles_acts (done_by (gap + 1) told) [])) (sym is) (among_told (gap + 1) id earlier later)) none (line_course number line before point.after point.told steps gap);
+  kept = λ none. acted_kept gap id (asked_on line) before point.after point.told (o (gap + 1)) left.board (all (gap + 1)) left.taken
+      (subst (λ (told : List Happening). IsAmong id (settles_acts (done_by (gap + 1) told) [])) (sym is) (among_told (gap + 1) id earlier later)) none (track_course number line before point.after point.told steps gap);
 }
 
 none_all_offered : (m : ℕ) → IsAsOf (node_at no_line m).lane.body none_offered
@@ -285,7 +286,7 @@ pub record AreOffered (s : LineState) : Type 0 where
 pub none_are_offered : AreOffered no_line
 none_are_offered = record { said = λ m. none_offered; all = none_all_offered }
 
-pub line_are_offered : (number : ℕ) (line : ScriptLine) (before after : LineState) (told : List Happening) → Stood before → Stood after → LineSteps number line before after told → AreOffered before → AreOffered after
+pub line_are_offered : (number : ℕ) (line : TrackLine) (before after : LineState) (told : List Happening) → Stood before → Stood after → TrackSteps number line before after told → AreOffered before → AreOffered after
 line_are_offered number line before after told was now steps o = record { said = λ m. offers_told m told (o.said m); all = line_offers number line before after told o.said was now steps o.all }
 
 -- a board that settles at a machine in a line which isn't of a hand at it
@@ -304,7 +305,7 @@ line_keeps_last number j id line before after told o steps no_hand among = by (l
 
 -- ---- along a run
 
-run_arrives : (gap : ℕ) (last off : Option Record) (o : ℕ → Offering) (s : LineState) (asked : List ScriptLine) (points : List Point) (n : ℕ) → Stood s → IsRun s asked points → AreStood (take n points) → AllOffered s o → GoneIsOffered last off → KeepsWhatLeft gap last s (take n points)
+run_arrives : (gap : ℕ) (last off : Option Record) (o : ℕ → Offering) (s : LineState) (asked : List TrackLine) (points : List Point) (n : ℕ) → Stood s → IsRun s asked points → AreStood (take n points) → AllOffered s o → GoneIsOffered last off → KeepsWhatLeft gap last s (take n points)
     → KeepsAsOffered gap off (o gap) s (take n points)
 run_arrives gap last off o s asked points zero was run stood all gone left = tt
 run_arrives gap last off o s [] [] (suc n) was run stood all gone left = tt

@@ -16,7 +16,6 @@ use Rattle.hermes_horizontal.specs.declared.message.Message.{Message}
 use Rattle.session_core.specs.declared.state.SessionState.{SessionState}
 use Rattle.session_core.specs.declared.state.SessionState.TheVariants.{NotConnected}
 use Rattle.line_link.specs.Flow.{coming}
-use Rattle.line_script.specs.declared.line.ScriptLine.{ScriptLine}
 use Rattle.line_report.specs.declared.happening.Happening.{Happening}
 use Rattle.handover_out.specs.declared.phase.Phase.{Phase as Out}
 use Rattle.handover_in.specs.State.{InState, board_of_phase as held_in}
@@ -45,13 +44,14 @@ use Rattle.machine_custody.specs.Flight.{oldest_none}
 use Rattle.link_messages.specs.Fit.{AreFit}
 use Rattle.link_messages.specs.Heard.{bodies}
 use Rattle.line_step.specs.Numbered.{node_at}
+use Rattle.line_step.specs.Tracks.{TrackLine}
 use Rattle.line_step.specs.Runs.{IsRun, Point, IsShort}
 use Rattle.line_step.specs.State.{LineState, no_line}
 use Rattle.line_step.specs.Steps.{unread_by}
 use Rattle.line_step.specs.World.{link_at}
 use Rattle.one_standing.specs.Carried.{Trace}
 use Rattle.one_standing.specs.Mirrors.{scene_at}
-use Rattle.one_standing.specs.Standing.{IsFitLine}
+use Rattle.one_standing.specs.Standing.{IsFitTrack}
 use Rattle.one_standing.specs.Stands.{Stands}
 use Rattle.one_standing.specs.Waits.{AreWaiting}
 use Rattle.one_standing.proofs.Carrying.{SaysAlone}
@@ -70,8 +70,8 @@ use Rattle.line_history.proofs.SettledRun.{entry_is, stepped_does}
 use Rattle.line_history.proofs.Orders.{Orders, exit_words, orders_end, step_orders}
 use Rattle.line_history.proofs.Started.{any_new, entry_open, open_all, taking_at, turn_open, none_some}
 use Rattle.line_history.proofs.Stills.{step_still, still_event, unnamed_settles, unsaid_settles}
-use Rattle.line_history.proofs.UpForms.{Base, Starting, UpNext, Ups, base, line_next, offers_all, orders_undriven, ups_none, ups_whole}
-use Rattle.line_history.proofs.View.{Stepped, Turn, done_append, done_by, has_stepped, is_still, line_turn, told_of_act, undriven}
+use Rattle.line_history.proofs.UpForms.{Base, Starting, UpNext, Ups, base, track_next, offers_all, orders_undriven, ups_none, ups_whole}
+use Rattle.line_history.proofs.View.{Stepped, Turn, done_append, done_by, has_stepped, is_still, track_turn, told_of_act, undriven}
 
 -- ---- what is on its way, by the relation of the link
 
@@ -389,7 +389,7 @@ after_line alone k t t2 s after told g st st2 waits n turn w said fit flows on =
 
 -- ---- along a run
 
-run_opened : SaysAlone → (k : ℕ) (past : List Happening) (s : LineState) (asked : List ScriptLine) (points : List Point) (n : ℕ) → AllByRecursion IsFitLine asked → IsShort s points → Stood s → IsRun s asked points → AreStood (take n points)
+run_opened : SaysAlone → (k : ℕ) (past : List Happening) (s : LineState) (asked : List TrackLine) (points : List Point) (n : ℕ) → AllByRecursion IsFitTrack asked → IsShort s points → Stood s → IsRun s asked points → AreStood (take n points)
     → Asks k s (gaps_after none_yet (gap_deeds k past)) → OpensWhatStarted k past s (take n points)
 run_opened alone k past s asked points zero fit few was run all asks = tt
 run_opened alone k past s [] [] (suc n) fit few was run all asks = tt
@@ -399,8 +399,8 @@ run_opened alone k past s (line ∷ asked) (point ∷ points) (suc n) fit few wa
     let g : Gap = gaps_after none_yet (gap_deeds k past) in
     let here : s.lines + 1 ≤ 1000000 = few.0 in
     let left : IsShort point.after points = few.1 in
-    let next : UpNext k was.trace s point.after point.told = line_next alone k (s.lines + 1) line was.trace s point.after point.told here fit.0 was.stands was.waits run.0 in
-    let turn : Turn k was.trace s point.after point.told = line_turn alone was.trace (s.lines + 1) line s point.after point.told was.stands run.0 k in
+    let next : UpNext k was.trace s point.after point.told = track_next alone k (s.lines + 1) line was.trace s point.after point.told here fit.0 was.stands was.waits run.0 in
+    let turn : Turn k was.trace s point.after point.told = track_turn alone was.trace (s.lines + 1) line s point.after point.told was.stands run.0 k in
     let w : Waits (starts_of next.ups) g (taking_at s (k + 1)) = waits_ups k was.trace s g next.ups was.stands asks next.is in
     let now : Stood point.after = all.0 in
     let then : Asks k point.after (gaps_after g (gap_deeds k point.told)) = after_line alone k was.trace now.trace s point.after point.told g was.stands now.stands now.waits next turn w in

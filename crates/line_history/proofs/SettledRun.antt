@@ -3,7 +3,6 @@ use Rattle.std.proofs.Common.{Bool, List, None, Option, Some, [], ap, append-nil
 use Rattle.std.specs.Prelude.{cond}
 use Rattle.line_base.specs.declared.states.Side.TheVariants.{Entry}
 use Rattle.board_record.specs.declared.record.Record.{Record}
-use Rattle.line_script.specs.declared.line.ScriptLine.{ScriptLine}
 use Rattle.line_world.specs.FloorPlan.{machine_at}
 use Rattle.node_core.specs.Done.{Done}
 use Rattle.node_core.specs.Step.{plain_step}
@@ -13,7 +12,7 @@ use Rattle.node_core.specs.declared.act.Deed.TheVariants as deeds
 use Rattle.node_core.specs.declared.lane.Body.{Body}
 use Rattle.line_report.specs.declared.happening.Happening.{Happening}
 use Rattle.line_report.specs.declared.happening.Happening.TheVariants as happenings
-use Rattle.line_step.specs.Lines.{LineSteps}
+use Rattle.line_step.specs.Tracks.{TrackLine, TrackSteps}
 use Rattle.line_step.specs.Numbered.{node_at}
 use Rattle.line_step.specs.Runs.{IsRun, Point, all_told}
 use Rattle.line_step.specs.State.{LineState, no_line}
@@ -31,7 +30,7 @@ use Rattle.line_history.proofs.Halves.{Knows}
 use Rattle.line_history.proofs.Said.{is_said_of, said_then}
 use Rattle.line_history.proofs.Stepping.{Does, StepDoes, step_does}
 use Rattle.line_history.proofs.Telling.{IsIn}
-use Rattle.line_history.proofs.View.{Turn, Stepped, done_act, done_by, has_stepped, is_still, line_turn, told_of_act, undriven}
+use Rattle.line_history.proofs.View.{Turn, Stepped, done_act, done_by, has_stepped, is_still, track_turn, told_of_act, undriven}
 
 -- ---- the acts at the entry among those of the machine
 
@@ -129,8 +128,8 @@ turn_told t j h before after told st k (has_stepped s) =
           (subst (λ (x : Hearing). Knows x (node_at after (j + 1)).lane.body.intake) (sym (entry_heard h d.acts)) (subst (λ (b : Body). Knows (heard_all h d.acts) b.intake) (sym s.body) does.knows));
     }
 
-pub line_told : SaysAlone → (number j : ℕ) (h : Hearing) (line : ScriptLine) (before after : LineState) (told : List Happening) → Stood before → LineSteps number line before after told → Knows h (node_at before (j + 1)).lane.body.intake → Told j h before after told
-line_told alone number j h line before after told was steps k = turn_told was.trace j h before after told was.stands k (line_turn alone was.trace number line before after told was.stands steps j)
+pub line_told : SaysAlone → (number j : ℕ) (h : Hearing) (line : TrackLine) (before after : LineState) (told : List Happening) → Stood before → TrackSteps number line before after told → Knows h (node_at before (j + 1)).lane.body.intake → Told j h before after told
+line_told alone number j h line before after told was steps k = turn_told was.trace j h before after told was.stands k (track_turn alone was.trace number line before after told was.stands steps j)
 
 -- ---- along a run
 
@@ -142,7 +141,7 @@ orderly_any ends = ends
 orderly_any (goes_on plain more) = goes_on plain (orderly_any more)
 orderly_any (settles_so named said is more) = settles_so named said tt (orderly_any more)
 
-run_told : SaysAlone → (j : ℕ) (h : Hearing) (s : LineState) (asked : List ScriptLine) (points : List Point) (n : ℕ) → Stood s → IsRun s asked points → AreStood (take n points) → Knows h (node_at s (j + 1)).lane.body.intake → Orderly Any h (entry_acts (j + 1) (all_told (take n points)))
+run_told : SaysAlone → (j : ℕ) (h : Hearing) (s : LineState) (asked : List TrackLine) (points : List Point) (n : ℕ) → Stood s → IsRun s asked points → AreStood (take n points) → Knows h (node_at s (j + 1)).lane.body.intake → Orderly Any h (entry_acts (j + 1) (all_told (take n points)))
 run_told alone j h s asked points zero was run all k = ends
 run_told alone j h s [] [] (suc n) was run all k = ends
 run_told alone j h s [] (point ∷ points) (suc n) was run all k = absurd run

@@ -4,7 +4,6 @@ use Rattle.std.specs.Prelude.{cond}
 use Rattle.std.specs.List.{list_any}
 use Rattle.std.proofs.lemmas.Bool.{and_parts}
 use Rattle.line_history.proofs.Said.{some_id}
-use Rattle.line_script.specs.declared.line.ScriptLine.{ScriptLine}
 use Rattle.node_core.specs.Done.{Done}
 use Rattle.node_core.specs.Event.{Event, Nothing}
 use Rattle.node_core.specs.Own.{Own, id_of, own_of}
@@ -15,6 +14,7 @@ use Rattle.node_core.specs.declared.act.Deed.TheVariants as deeds
 use Rattle.node_core.specs.declared.lane.Body.{Body}
 use Rattle.line_report.specs.declared.happening.Happening.{Happening}
 use Rattle.line_step.specs.Numbered.{node_at}
+use Rattle.line_step.specs.Tracks.{TrackLine}
 use Rattle.line_step.specs.Runs.{IsRun, Point}
 use Rattle.line_step.specs.State.{LineState, no_line}
 use Rattle.line_step.specs.Steps.{unread_by}
@@ -26,7 +26,7 @@ use Rattle.one_standing.proofs.LineRun.{AreStood, Stood, none_stood, run_stood}
 use Rattle.line_history.specs.Settled.{entry_acts, is_at_entry, is_start, starts}
 use Rattle.line_history.specs.Started.{HoldsWhatStarted, IsStartedLast, WhatIsHeldStarted, is_over}
 use Rattle.line_history.proofs.SettledRun.{acts_append, entry_is, entry_of, entry_undriven}
-use Rattle.line_history.proofs.View.{Turn, has_stepped, is_still, line_turn}
+use Rattle.line_history.proofs.View.{Turn, has_stepped, is_still, track_turn}
 
 -- ---- the board of the last start that is not over
 
@@ -157,14 +157,14 @@ none_open {id = id} (inr both) = none_some id both.0
 
 -- ---- along a run
 
-run_started : SaysAlone → (gap : ℕ) (past : List Happening) (s : LineState) (asked : List ScriptLine) (points : List Point) (n : ℕ) → Stood s → IsRun s asked points → AreStood (take n points) → open_all None (entry_acts (gap + 1) past) ≡ taking_at s (gap + 1)
+run_started : SaysAlone → (gap : ℕ) (past : List Happening) (s : LineState) (asked : List TrackLine) (points : List Point) (n : ℕ) → Stood s → IsRun s asked points → AreStood (take n points) → open_all None (entry_acts (gap + 1) past) ≡ taking_at s (gap + 1)
     → HoldsWhatStarted gap past (take n points)
 run_started alone gap past s asked points zero was run all k = tt
 run_started alone gap past s [] [] (suc n) was run all k = tt
 run_started alone gap past s [] (point ∷ points) (suc n) was run all k = absurd run
 run_started alone gap past s (line ∷ asked) [] (suc n) was run all k = absurd run
 run_started alone gap past s (line ∷ asked) (point ∷ points) (suc n) was run all k =
-    let turn : Turn gap was.trace s point.after point.told = line_turn alone was.trace (s.lines + 1) line s point.after point.told was.stands run.0 gap in
+    let turn : Turn gap was.trace s point.after point.told = track_turn alone was.trace (s.lines + 1) line s point.after point.told was.stands run.0 gap in
     let now : open_all None (entry_acts (gap + 1) (past ++ point.told)) ≡ taking_at point.after (gap + 1) =
     ap (λ (x : List Act). open_all None x) (acts_append (gap + 1) past point.told) ∙ open_append None (entry_acts (gap + 1) past) (entry_acts (gap + 1) point.told)
     ∙ ap (λ (x : Option ℕ). open_all x (entry_acts (gap + 1) point.told)) k ∙ turn_open was.trace gap s point.after point.told turn in (

@@ -49,6 +49,9 @@ use Rattle.machine_custody.specs.Flight.{AreOldest, oldest_none}
 use Rattle.link_messages.specs.Fit.{AreFit, AreFitActs, AreFitWords, IsFitInput, none_fit}
 use Rattle.link_messages.specs.Heard.{Heard, HeardSpoiled, bodies}
 use Rattle.link_messages.proofs.Fitting.{fit_behind}
+use Rattle.node_core.specs.declared.lane.Lane.{Lane}
+use Rattle.line_step.specs.Tracks.{TrackLine, TrackSteps, other_line, own_line}
+use Rattle.line_step.proofs.Beside.{beside-lane}
 use Rattle.line_step.specs.Lines.{Connects, Flows, LineSteps, arrived, connecting, lied, met, moved, spoil_told, spoiled, unseen}
 use Rattle.line_step.specs.Numbered.{node_at}
 use Rattle.line_step.specs.Reasons.{has_link, is_empty, may_do, may_flow}
@@ -60,7 +63,7 @@ use Rattle.line_step.proofs.Keeps.{more_at}
 use Rattle.line_step.proofs.Numbers.{machine_within, same_or_not}
 use Rattle.one_standing.specs.Carried.{Carries, IsFitMachine, Trace, carries_over, carries_spoiled, carries_whole}
 use Rattle.one_standing.specs.Links.{AreWholeLinks}
-use Rattle.one_standing.specs.Standing.{IsFitLine}
+use Rattle.one_standing.specs.Standing.{IsFitLine, IsFitTrack}
 use Rattle.one_standing.specs.Stands.{Stands}
 use Rattle.one_standing.specs.Waits.{AreWaiting}
 use Rattle.one_standing.proofs.Behind.{fit_machine}
@@ -644,3 +647,9 @@ line_next alone k number line t before after told few fit st waits steps =
       up = λ on. subst (λ (n : NodeState). UpOn (Starting k told) one.ids n.lane.exit_bytes (link_at k next.world)) (sym nodes)
           (subst (λ (A : Type 0). UpOn A one.ids (node_at next k).lane.exit_bytes (link_at k next.world)) any (one.up (ap (λ (n : NodeState). is_open Exit n.lane.body) (sym nodes) ∙ on)));
     })
+
+-- EACH LINE OF A TRACK
+pub track_next : SaysAlone → (k number : ℕ) (line : TrackLine) (t : Trace) (before after : LineState) (told : List Happening) → number ≤ 1000000 → IsFitTrack line → Stands t before → AreWaiting before → TrackSteps number line before after told → UpNext k t before after told
+track_next alone k number (own_line line) t before after told few fit st waits steps = line_next alone k number line t before after told few fit st waits steps
+track_next alone k number other_line t before after told few fit st waits steps =
+    still_next k t before after told st (ap (done_by k) steps.1) (ap (λ (l : Lane). l.exit_bytes) (beside-lane before after k steps.0)) (ap (link_at k) steps.0.world)

@@ -5,6 +5,7 @@ use Rattle.std.specs.Prelude.{if◌then◌else◌, slice_index_or}
 use Rattle.std.specs.List.{AllByRecursion}
 use Rattle.std.proofs.lemmas.Bool.{ltb-true, and_from}
 use Rattle.std.proofs.lemmas.Bool.Decides.{eqb_tells}
+use Rattle.line_step.proofs.Beside.{beside-lane}
 use Rattle.line_step.proofs.Once.{IsDry}
 use Rattle.one_standing.proofs.RestLine.{node_there}
 use Rattle.line_step.proofs.OnFloor.{made-join}
@@ -41,6 +42,7 @@ use Rattle.node_core.specs.declared.act.Act.TheVariants as acts
 use Rattle.node_core.specs.declared.input.Input.{Input}
 use Rattle.node_core.specs.declared.input.Input.TheVariants as inputs
 use Rattle.node_core.specs.declared.lane.Body.{Body}
+use Rattle.node_core.specs.declared.lane.Lane.{Lane}
 use Rattle.node_core.specs.declared.supervising.Watch.{Watch}
 use Rattle.node_core.specs.declared.word.Word.{Word}
 use Rattle.node_core.proofs.Signalling.{signals_pass}
@@ -49,6 +51,7 @@ use Rattle.line_report.specs.declared.happening.Happening.{Happening}
 use Rattle.line_report.specs.declared.happening.Happening.TheVariants as happenings
 use Rattle.line_step.specs.Acts.{act_did, acts_did, cut_told, is_answer, is_exit, sent_by}
 use Rattle.line_step.specs.FloorIds.{made_by}
+use Rattle.line_step.specs.Tracks.{IsBeside, TrackLine, TrackSteps, other_line, own_line}
 use Rattle.line_step.specs.Lines.{Becomes, Connects, Flows, LineSteps, arrived, connecting, met, spoiled}
 use Rattle.line_step.specs.Numbered.{Stand, no_node, node_at, stand_at}
 use Rattle.line_step.specs.Reasons.{has_link, is_empty, may_do, may_flow}
@@ -538,6 +541,19 @@ each_turn K number line before after told j steps are =
     ap (done_by (j + 1)) steps.told_is ∙ done_append (j + 1) done (standings_told before next) ∙ ap (λ (x : List Act). done_by (j + 1) done ++ x) (standings_none (j + 1) before next) ∙ append-nil (done_by (j + 1) done) in
     subst (λ (s : LineState). TurnBy K j before s told) (sym steps.after_is) (counted_turn (steps.lines) acts (same_machines j next (record next { lines = steps.lines }) refl) turn)
 
+-- behind a line of another track it is as it was
+pub beside_turn : (K : Event → Type 0) (before after : LineState) (told : List Happening) (j : ℕ) → IsBeside before after → told ≡ [] → TurnBy K j before after told
+beside_turn K before after told j beside none = is_still (ap (λ (l : Lane). unwilled l.body) (beside-lane before after (j + 1) beside)) (ap (done_by (j + 1)) none)
+
 pub line_turn : SaysAlone → (t : Trace) (number : ℕ) (line : ScriptLine) (before after : LineState) (told : List Happening) → Stands t before → LineSteps number line before after told → (j : ℕ) → Turn j t before after told
 line_turn alone t number line before after told st steps j =
     each_turn (λ (event : Event). AreTheirs event (scene_at t before j)) number line before after told j steps (are_theirs alone t number j before steps.next steps.done (request_of line) st)
+
+pub track_kind : (number : ℕ) (line : TrackLine) (before after : LineState) (told : List Happening) → TrackSteps number line before after told → Kind before after told
+track_kind number (own_line line) before after told steps = line_kind number line before after told steps
+track_kind number other_line before after told steps = inl (λ j. (ap (λ (l : Lane). unwilled l.body) (beside-lane before after (j + 1) steps.0), ap (done_by (j + 1)) steps.1))
+
+-- EACH LINE OF A TRACK
+pub track_turn : SaysAlone → (t : Trace) (number : ℕ) (line : TrackLine) (before after : LineState) (told : List Happening) → Stands t before → TrackSteps number line before after told → (j : ℕ) → Turn j t before after told
+track_turn alone t number (own_line line) before after told st steps j = line_turn alone t number line before after told st steps j
+track_turn alone t number other_line before after told st steps j = beside_turn (λ (event : Event). AreTheirs event (scene_at t before j)) before after told j steps.0 steps.1

@@ -14,14 +14,14 @@ use Rattle.hermes_horizontal.specs.declared.message.Horizontal.TheVariants as bo
 use Rattle.node_core.specs.declared.act.Act.{Act}
 use Rattle.node_core.specs.declared.act.Act.TheVariants as acts
 use Rattle.node_core.specs.declared.act.Deed.TheVariants as deeds
-use Rattle.line_script.specs.declared.line.ScriptLine.{ScriptLine}
 use Rattle.line_report.specs.declared.happening.Happening.{Happening}
 use Rattle.line_report.specs.declared.happening.Happening.TheVariants as happenings
 use Rattle.line_step.specs.Lies.{has_lie}
 use Rattle.line_step.specs.Numbered.{node_at}
+use Rattle.line_step.specs.Tracks.{TrackLine}
 use Rattle.line_step.specs.Runs.{IsRun, Point, IsShort}
 use Rattle.line_step.specs.State.{LineState, no_line}
-use Rattle.one_standing.specs.Standing.{IsFitLine}
+use Rattle.one_standing.specs.Standing.{IsFitTrack}
 use Rattle.line_history.specs.LetGo.{is_leaving, settles_at, taken_below}
 
 -- ---- which record was offered
@@ -118,7 +118,7 @@ KeepsAsOffered gap last o s (point ∷ points) =
 -- or let a board come or go unseen
 abbrev pub WhatSettlesWasOffered : Type 0
 WhatSettlesWasOffered =
-    (asked : List ScriptLine) (points : List Point) (n gap : ℕ)
-    → AllByRecursion IsFitLine asked → IsShort no_line points → IsRun no_line asked points
+    (asked : List TrackLine) (points : List Point) (n gap : ℕ)
+    → AllByRecursion IsFitTrack asked → IsShort no_line points → IsRun no_line asked points
     → has_lie (take n points) ≡ false
     → KeepsAsOffered gap None none_offered no_line (take n points)

@@ -7,13 +7,13 @@ use Rattle.board_record.specs.declared.record.Record.{Record}
 use Rattle.node_core.specs.declared.act.Act.TheVariants as acts
 use Rattle.node_core.specs.declared.act.Deed.{Deed}
 use Rattle.node_core.specs.declared.act.Deed.TheVariants as deeds
-use Rattle.line_script.specs.declared.line.ScriptLine.{ScriptLine}
 use Rattle.line_report.specs.declared.happening.Happening.{Happening}
 use Rattle.line_report.specs.declared.happening.Happening.TheVariants as happenings
 use Rattle.line_step.specs.Lies.{has_lie}
+use Rattle.line_step.specs.Tracks.{TrackLine}
 use Rattle.line_step.specs.Runs.{IsRun, Point, IsShort}
 use Rattle.line_step.specs.State.{LineState, no_line}
-use Rattle.one_standing.specs.Standing.{IsFitLine}
+use Rattle.one_standing.specs.Standing.{IsFitTrack}
 use Rattle.line_history.specs.LetGo.{taken_below}
 
 -- ---- what the report tells of a gap
@@ -98,6 +98,6 @@ OpensWhatStarted gap past s (point ∷ points) =
 -- THE LAW: it holds at each gap over every script, up to the first line that told what was not so,
 -- or let a board come or go unseen
 abbrev pub WhatOpensStarted : Type 0
-WhatOpensStarted = (asked : List ScriptLine) (points : List Point) (n gap : ℕ)
-    → AllByRecursion IsFitLine asked → IsShort no_line points → IsRun no_line asked points
+WhatOpensStarted = (asked : List TrackLine) (points : List Point) (n gap : ℕ)
+    → AllByRecursion IsFitTrack asked → IsShort no_line points → IsRun no_line asked points
     → has_lie (take n points) ≡ false → OpensWhatStarted gap [] no_line (take n points)

@@ -13,13 +13,13 @@ use Rattle.hermes_horizontal.specs.declared.message.Horizontal.TheVariants as bo
 use Rattle.node_core.specs.declared.act.Act.{Act}
 use Rattle.node_core.specs.declared.act.Act.TheVariants as acts
 use Rattle.node_core.specs.declared.act.Deed.TheVariants as deeds
-use Rattle.line_script.specs.declared.line.ScriptLine.{ScriptLine}
 use Rattle.line_report.specs.declared.happening.Happening.{Happening}
 use Rattle.line_report.specs.declared.happening.Happening.TheVariants as happenings
 use Rattle.line_step.specs.Lies.{has_lie}
+use Rattle.line_step.specs.Tracks.{TrackLine}
 use Rattle.line_step.specs.Runs.{IsRun, Point, all_told, IsShort}
 use Rattle.line_step.specs.State.{no_line}
-use Rattle.one_standing.specs.Standing.{IsFitLine}
+use Rattle.one_standing.specs.Standing.{IsFitTrack}
 
 -- ---- what a machine does at its entry
 
@@ -109,6 +109,6 @@ SettlesWhenSaid machine told =
 -- told what was not so, or let a board come or go unseen
 abbrev pub BoardsSettleWhenSaid : Type 0
 BoardsSettleWhenSaid =
-    (asked : List ScriptLine) (points : List Point) (n gap : ℕ) → AllByRecursion IsFitLine asked
+    (asked : List TrackLine) (points : List Point) (n gap : ℕ) → AllByRecursion IsFitTrack asked
     → IsShort no_line points → IsRun no_line asked points → has_lie (take n points) ≡ false
     → SettlesWhenSaid (gap + 1) (all_told (take n points))

@@ -10,12 +10,12 @@ use Rattle.board_record.specs.declared.record.Record.{Record}
 use Rattle.node_core.specs.declared.act.Act.{Act}
 use Rattle.node_core.specs.declared.act.Act.TheVariants as acts
 use Rattle.node_core.specs.declared.act.Deed.TheVariants as deeds
-use Rattle.line_script.specs.declared.line.ScriptLine.{ScriptLine}
 use Rattle.line_report.specs.declared.happening.Happening.{Happening}
 use Rattle.line_step.specs.Lies.{has_lie}
+use Rattle.line_step.specs.Tracks.{TrackLine}
 use Rattle.line_step.specs.Runs.{IsRun, Point, IsShort}
 use Rattle.line_step.specs.State.{no_line}
-use Rattle.one_standing.specs.Standing.{IsFitLine}
+use Rattle.one_standing.specs.Standing.{IsFitTrack}
 use Rattle.line_history.specs.LetGo.{taken_below}
 use Rattle.line_history.specs.Settled.{entry_acts, is_start, starts}
 
@@ -46,6 +46,6 @@ HoldsWhatStarted gap past (point ∷ points) =
 -- or let a board come or go unseen
 abbrev pub WhatIsHeldStarted : Type 0
 WhatIsHeldStarted =
-    (asked : List ScriptLine) (points : List Point) (n gap : ℕ) → AllByRecursion IsFitLine asked
+    (asked : List TrackLine) (points : List Point) (n gap : ℕ) → AllByRecursion IsFitTrack asked
     → IsShort no_line points → IsRun no_line asked points → has_lie (take n points) ≡ false
     → HoldsWhatStarted gap [] (take n points)

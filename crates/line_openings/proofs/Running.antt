@@ -14,6 +14,7 @@ use Rattle.node_core.specs.declared.input.Input.TheVariants as inputs
 use Rattle.node_core.specs.declared.lane.Body.{Body}
 use Rattle.node_core.specs.declared.word.Word.{Word}
 use Rattle.node_core.specs.Event.{Replace, event_of}
+use Rattle.node_core.specs.declared.lane.Lane.{Lane}
 use Rattle.node_core.specs.Node.{NodeState, desk_of, new_node}
 use Rattle.node_core.specs.Signals.{signalled}
 use Rattle.node_core.specs.Sound.{IsSound}
@@ -28,6 +29,7 @@ use Rattle.line_step.specs.Acts.{acts_did}
 use Rattle.line_step.specs.Steps.{MachineSteps, is_second, moment_of, read_by, unread_by}
 use Rattle.line_step.specs.Shown.{standings_told}
 use Rattle.line_step.specs.Lines.{Connects, Flows, LineSteps, arrived, connecting, met}
+use Rattle.line_step.specs.Tracks.{AreBesideNodes, IsBeside, IsBesideNode, TrackLine, TrackSteps, other_line, own_line}
 use Rattle.line_step.specs.Runs.{Point, IsRun, all_told}
 use Rattle.line_step.proofs.Numbers.{machine_set_other, machine_set_own, machine_within, same_or_not}
 use Rattle.line_openings.specs.Announced.{OpensWhenAnnounced, exit_acts}
@@ -231,14 +233,43 @@ steps_goes number k line o r before after told h steps =
     subst (λ (s : LineState). Goes k o r s told) (sym steps.after_is) (subst (λ (x : List Happening). Goes k o r count x) (sym steps.told_is)
     (goes_both k o r next count steps.done (standings_told before next) one (λ held. still k _ _ next count (standings_told before next) (remarks_none k (standings_told before next) (standings_remarks before next)) (same_in k next count refl) held)))
 
+-- a line of another track
+beside_has : {o : Option ℕ} {r : Bool} {node now : NodeState} → IsBesideNode node now → Has o r node → Has o r now
+beside_has {o} {r} {node} {now} beside has = record {
+  offered = ap (λ (l : Lane). l.body.outlet.offered) beside.lane ∙ has.offered;
+  ready = ap (λ (l : Lane). l.body.outlet.ready) beside.lane ∙ has.ready;
+  sound = subst (λ (most : ℕ). IsSound most now.lane.body) (sym beside.capacity) (subst (λ (l : Lane). IsSound node.capacity l.body) (sym beside.lane) has.sound);
+  linked = subst (λ (l : Lane). Linked l.body) (sym beside.lane) has.linked;
+}
+
+beside_hold : (o : Option ℕ) (r : Bool) (nodes others : List NodeState) (place : ℕ) → AreBesideNodes nodes others → Holds o r (slice_get nodes place) → Holds o r (slice_get others place)
+beside_hold o r [] [] place are held = held
+beside_hold o r [] (other ∷ others) place are held = absurd are
+beside_hold o r (node ∷ nodes) [] place are held = absurd are
+beside_hold o r (node ∷ nodes) (other ∷ others) zero are held = is_there (beside_has are.0 (holds_there o r (Some node) node refl held))
+beside_hold o r (node ∷ nodes) (other ∷ others) (suc place) are held = beside_hold o r nodes others place are.1 held
+
+beside_holds : (o : Option ℕ) (r : Bool) (k : ℕ) (before after : LineState) → IsBeside before after → Holds o r (machine_in k before) → Holds o r (machine_in k after)
+beside_holds o r zero before after is held = held
+beside_holds o r (suc place) before after is held = beside_hold o r before.machines after.machines place is.machines held
+
+track_goes : (number k : ℕ) (line : TrackLine) (o : Option ℕ) (r : Bool) (before after : LineState) (told : List Happening) → Holds o r (machine_in k before) → TrackSteps number line before after told → Goes k o r after told
+track_goes number k (own_line line) o r before after told h steps = steps_goes number k line o r before after told h steps
+track_goes number k other_line o r before after told h steps =
+    let none : exit_acts k told ≡ [] = ap (exit_acts k) steps.1 in
+    record {
+      tells = told_apart k o r told none;
+      holds = subst (λ (a : List Act). Holds (offered_from o a) (ready_from r a) (machine_in k after)) (sym none) (beside_holds o r k before after steps.0 h);
+    }
+
 -- ---- over a run
 
-run_told : (k : ℕ) (o : Option ℕ) (r : Bool) (s : LineState) (asked : List ScriptLine) (points : List Point) → Holds o r (machine_in k s) → IsRun s asked points → Told k o r (all_told points)
+run_told : (k : ℕ) (o : Option ℕ) (r : Bool) (s : LineState) (asked : List TrackLine) (points : List Point) → Holds o r (machine_in k s) → IsRun s asked points → Told k o r (all_told points)
 run_told k o r s [] [] h run = told_apart k o r [] refl
 run_told k o r s [] (point ∷ points) h run = absurd run
 run_told k o r s (line ∷ asked) [] h run = absurd run
 run_told k o r s (line ∷ asked) (point ∷ points) h run =
-    let one = steps_goes (s.lines + 1) k line o r s point.after point.told h run.0 in
+    let one = track_goes (s.lines + 1) k line o r s point.after point.told h run.0 in
     told_both (all_told points) one.tells (run_told k (offered_from o (exit_acts k point.told)) (ready_from r (exit_acts k point.told)) point.after asked points one.holds run.1)
 
 none_holds : (k : ℕ) → Holds None false (machine_in k no_line)

@@ -20,11 +20,11 @@ use Rattle.node_core.specs.declared.act.Act.{Act}
 use Rattle.node_core.specs.declared.act.Act.TheVariants as acts
 use Rattle.node_core.specs.declared.act.Deed.{Deed}
 use Rattle.node_core.specs.declared.act.Deed.TheVariants as deeds
-use Rattle.line_script.specs.declared.line.ScriptLine.{ScriptLine}
 use Rattle.line_report.specs.declared.happening.Happening.{Happening}
 use Rattle.line_report.specs.declared.happening.Happening.TheVariants as happenings
 use Rattle.line_step.specs.Acts.{is_exit}
 use Rattle.line_step.specs.State.{no_line}
+use Rattle.line_step.specs.Tracks.{TrackLine}
 use Rattle.line_step.specs.Runs.{Point, IsRun, all_told}
 
 -- ---- the acts of a machine on its exit
@@ -189,5 +189,5 @@ pub record OpensAsAnnounced (k : ℕ) (told : List Happening) : Type 0 where
 -- spoiled and whatever is told of the sensors
 abbrev pub OpensWhenAnnounced : Type 0
 OpensWhenAnnounced =
-    (asked : List ScriptLine) (points : List Point) (k : ℕ) → IsRun no_line asked points
+    (asked : List TrackLine) (points : List Point) (k : ℕ) → IsRun no_line asked points
     → OpensAsAnnounced k (all_told points)

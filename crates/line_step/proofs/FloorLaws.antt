@@ -52,6 +52,7 @@ use Rattle.line_step.specs.Steps.{MachineSteps, is_second, moment_of, read_by, u
 use Rattle.line_step.specs.Reasons.{if_there, is_here, may_do, is_bare, no_if}
 use Rattle.line_step.specs.Shown.{standings_told}
 use Rattle.line_step.specs.Lines.{Connects, Flows, LineSteps, arrived, connecting, cut_in, lied, met, moved, spoil_told, spoiled, unseen, unseen_on, unvouched_told}
+use Rattle.line_step.specs.Tracks.{IsBeside, TrackLine, TrackSteps, other_line, own_line}
 use Rattle.line_step.specs.Runs.{Point, IsRun}
 use Rattle.node_core.specs.Signals.{signalled}
 use Rattle.node_core.specs.Step.{plain_step}
@@ -75,6 +76,7 @@ use Rattle.line_step.proofs.OnFloor.{Handles, IsPlain, IsStill, LiesThere, SameB
 use Rattle.line_step.proofs.Remarks.{IsRemark, Passes, all_pass, standings_remarks, unvouched_remarks}
 use Rattle.line_step.proofs.Requests.{Request, added_told, may_get, request_of}
 use Rattle.line_step.proofs.Effects.{Effect, added_remarks, becomes_by, line_effect, spoil_remarks}
+use Rattle.line_step.proofs.Beside.{beside-length, beside-numbered, beside-old}
 use Rattle.line_step.proofs.Getting.{removes_here, replaces_here}
 use Rattle.line_step.proofs.Effects as effects
 
@@ -889,36 +891,50 @@ steps-goes number line s after told h steps =
     let Q : List Happening → Type 0 = λ list. Goes s after list in
     subst Q (sym steps.told_is) (subst P (sym steps.after_is) (goes-both s next count steps.done (standings_told s next) one two))
 
+-- a line of another track uses ids, and moves no board
+pub beside-goes : (s after : LineState) (told : List Happening) → Holds s → IsBeside s after → told ≡ [] → Goes s after told
+beside-goes s after told h beside none =
+    let many : length after.world.floor.machines ≡ length after.machines = ap (λ (w : WorldParts). length w.floor.machines) beside.world ∙ h.many ∙ sym (beside-length s.machines after.machines beside.machines) in
+    let follows : Follows s.machines after.machines = record { own = beside-numbered 1 s.machines after.machines beside.machines; olds = beside-old 1 s.machines after.machines beside.machines } in
+    let whole : IsWhole after.world.floor = subst (λ (w : WorldParts). IsWhole w.floor) (sym beside.world) h.whole in
+    let Q : List Happening → Type 0 = λ list. Goes s after list in
+    subst Q (sym none) (still-goes s after [] h follows many whole (ap (λ (w : WorldParts). boards_on w.floor) beside.world) still-none)
+
+-- EACH STEP OF A TRACK
+pub track-goes : (number : ℕ) (line : TrackLine) (s after : LineState) (told : List Happening) → Holds s → TrackSteps number line s after told → Goes s after told
+track-goes number (own_line line) s after told h steps = steps-goes number line s after told h steps
+track-goes number other_line s after told h steps = beside-goes s after told h steps.0 steps.1
+
 -- ---- over a run
 
 none-holds : Holds no_line
 none-holds = record { own = tt; many = refl; whole = refl; old = tt; differ = record { once = λ id. omega arith } }
 
-all-differ : (s : LineState) (asked : List ScriptLine) (points : List Point) → Holds s → IsRun s asked points → AllByRecursion (λ (point : Point). IdsDiffer point.after.world.floor) points
+all-differ : (s : LineState) (asked : List TrackLine) (points : List Point) → Holds s → IsRun s asked points → AllByRecursion (λ (point : Point). IdsDiffer point.after.world.floor) points
 all-differ s [] [] h run = tt
 all-differ s [] (point ∷ points) h run = absurd run
 all-differ s (line ∷ asked) [] h run = absurd run
 all-differ s (line ∷ asked) (point ∷ points) h run =
-    let goes = steps-goes (s.lines + 1) line s point.after point.told h run.0 in
+    let goes = track-goes (s.lines + 1) line s point.after point.told h run.0 in
     (goes.holds.differ, all-differ point.after asked points goes.holds run.1)
 
-all-fresh : (seen : List ℕ) (s : LineState) (asked : List ScriptLine) (points : List Point) → Holds s → AllByRecursion (IsOld 1 s.machines) seen → IsRun s asked points → IsFresh seen points
+all-fresh : (seen : List ℕ) (s : LineState) (asked : List TrackLine) (points : List Point) → Holds s → AllByRecursion (IsOld 1 s.machines) seen → IsRun s asked points → IsFresh seen points
 all-fresh seen s [] [] h old run = tt
 all-fresh seen s [] (point ∷ points) h old run = absurd run
 all-fresh seen s (line ∷ asked) [] h old run = absurd run
 all-fresh seen s (line ∷ asked) (point ∷ points) h old run =
-    let goes = steps-goes (s.lines + 1) line s point.after point.told h run.0 in
+    let goes = track-goes (s.lines + 1) line s point.after point.told h run.0 in
     let now = each-join (IsOld 1 point.after.machines) seen (handled_by point.told) (each-weaker (IsOld 1 s.machines) (IsOld 1 point.after.machines) seen goes.olds old) goes.handled in (
       each-weaker (λ id. (other : ℕ) → IsOld 1 s.machines other → other ≢ id) (IsNoneOf seen) (made_by point.told) (λ id apart. each-weaker (IsOld 1 s.machines) (λ other. other ≢ id) seen apart old) goes.fresh,
       all-fresh (seen ++ handled_by point.told) point.after asked points goes.holds now run.1,
     )
 
-all-stay : (s : LineState) (asked : List ScriptLine) (points : List Point) → Holds s → IsRun s asked points → KeepsIds s points
+all-stay : (s : LineState) (asked : List TrackLine) (points : List Point) → Holds s → IsRun s asked points → KeepsIds s points
 all-stay s [] [] h run = tt
 all-stay s [] (point ∷ points) h run = absurd run
 all-stay s (line ∷ asked) [] h run = absurd run
 all-stay s (line ∷ asked) (point ∷ points) h run =
-    let goes = steps-goes (s.lines + 1) line s point.after point.told h run.0 in
+    let goes = track-goes (s.lines + 1) line s point.after point.told h run.0 in
     (goes.change, all-stay point.after asked points goes.holds run.1)
 
 pub ids_stay : IdsStay

@@ -21,6 +21,7 @@ pub mod Ascending
 pub mod Unnamed
 pub mod ChangedStandings
 pub mod Counted
+pub mod Beside
 pub mod Running
 pub mod Hands
 pub mod Makers

@@ -61,7 +61,7 @@ numbered-set number (s ∷ ss) (suc place) node other own found new =
     let here : number + suc place ≡ number + 1 + place = omega arith in
     (own.0, numbered-set (number + 1) ss place node other own.1 found (rw here at new))
 
-made-more : (number used more id : ℕ) → used ≤ more → IsMadeBy number used id → IsMadeBy number more id
+pub made-more : (number used more id : ℕ) → used ≤ more → IsMadeBy number used id → IsMadeBy number more id
 made-more number used more id le made = record { count = made.count; counted = omega (arith, made.counted); small = made.small; is = made.is }
 
 -- what was made stays made

@@ -12,7 +12,7 @@ use Rattle.line_step.specs.State.{LineState, no_line}
 use Rattle.line_step.specs.Runs.{IsRun, IsShort, Point, all_told, state_behind, told_text}
 use Rattle.line_step.specs.Parts.{IsPlay, IsScriptRun, Part, ScriptLineSteps, count_behind, lines_played, parts_of, script_parts}
 use Rattle.line_step.proofs.Running.{behind-append, told-append}
-use Rattle.line_step.proofs.Vouching.{lies_remembered}
+use Rattle.line_step.proofs.Vouching.{script_remembered}
 
 -- A PLAY IS A RUN of the lines that its parts are
 pub play-run : (s : LineState) (parts : List Part) (points : List Point) → IsPlay s parts points → IsRun s (lines_played s parts points) points
@@ -184,4 +184,4 @@ line-told line before after told steps =
 
 -- A LINE IS UNVOUCHED exactly where one of the lines of its script told what was not so, or let a board come or go unseen
 pub script-remembered : (asked : List ScriptLine) (points : List Point) → IsScriptRun no_line asked points → is_some (state_behind no_line points).unvouched ≡ has_lie points
-script-remembered asked points run = lies_remembered (lines_played no_line (script_parts asked) points) points (play-run no_line (script_parts asked) points run)
+script-remembered asked points run = script_remembered asked points run

@@ -1,7 +1,7 @@
 -- A line remembers that one of the lines of its script told what was not so.
 use Rattle.std.proofs.Common.{◌≡◌, ◌+◌, ◌||◌, ◌++◌, ℕ, false, List, ◌∷◌, Option, Some, None, Ok, refl, sym, ap, ◌∙◌, []}
 use Rattle.std.specs.Prelude.{is_some}
-use Rattle.std.proofs.lemmas.Bool.{or_parts}
+use Rattle.std.proofs.lemmas.Bool.{or_from, or_parts}
 use Rattle.supervisory_core.proofs.Rows.{or_false}
 use mathlib.Core.Bool.{or_assoc}
 use Rattle.line_base.specs.declared.states.Side.{Side}
@@ -14,7 +14,9 @@ use Rattle.line_step.specs.State.{LineState, no_line, one_more}
 use Rattle.line_step.specs.Steps.{MachineSteps, is_second, read_by}
 use Rattle.line_step.specs.Shown.{standings_told}
 use Rattle.line_step.specs.Lines.{LineSteps, cut_in, lied, moved, spoil_told, spoiled, unseen, unvouched_told}
+use Rattle.line_step.specs.Tracks.{TrackLine, TrackSteps, other_line, own_line}
 use Rattle.line_step.specs.Runs.{Point, IsRun, state_behind}
+use Rattle.line_step.specs.Parts.{IsPlay, IsScriptRun, Part, script_parts}
 use Rattle.line_step.specs.Lies.{has_lie, is_lie, tells_lie}
 use Rattle.line_step.proofs.Remarks.{AreRemarks, IsRemark, Passes, acts_pass, all_pass, standings_remarks}
 use Rattle.line_step.proofs.Requests.{Request, added_told, request_of}
@@ -120,24 +122,57 @@ steps-honest number line before after told calm steps =
     ap tells_lie steps.told_is ∙ lie-join steps.done (standings_told before steps.next) done (all_pass (standings_told before steps.next) remarks-honest (standings_remarks before steps.next))
 
 -- nothing is remembered behind a line that was not before it
+none_of : (o : Option ℕ) → is_some o ≡ false → o ≡ None
+none_of None is = refl
+none_of (Some line) is = cc
+
+-- where somebody vouches for a line, somebody did before its last line, which told no lie
+record Vouches (before : LineState) (told : List Happening) : Type 0 where
+  vouched : before.unvouched ≡ None
+  unlied : tells_lie told ≡ false
+
+steps-vouch : (number : ℕ) (line : ScriptLine) (before after : LineState) (told : List Happening) → LineSteps number line before after told → after.unvouched ≡ None → Vouches before told
+steps-vouch number line before after told steps none =
+    let parts = or_parts (is_some before.unvouched) (tells_lie told) (sym (steps-remember number line before after told steps) ∙ ap is_some none) in
+    record { vouched = none_of before.unvouched parts.0; unlied = parts.1 }
+
 pub unvouched-before : (number : ℕ) (line : ScriptLine) (before after : LineState) (told : List Happening) → LineSteps number line before after told → after.unvouched ≡ None → before.unvouched ≡ None
-unvouched-before number line before after told steps none =
-    none_of before.unvouched (or_parts (is_some before.unvouched) (tells_lie told) (sym (steps-remember number line before after told steps) ∙ ap is_some none)).0 where
-      none_of : (o : Option ℕ) → is_some o ≡ false → o ≡ None
-      none_of None is = refl
-      none_of (Some line) is = cc
+unvouched-before number line before after told steps none = (steps-vouch number line before after told steps none).vouched
+
+track-vouches : (number : ℕ) (line : TrackLine) (before after : LineState) (told : List Happening) → TrackSteps number line before after told → after.unvouched ≡ None → Vouches before told
+track-vouches number (own_line line) before after told steps none = steps-vouch number line before after told steps none
+track-vouches number other_line before after told steps none = record { vouched = steps.0.vouched none; unlied = ap tells_lie steps.1 }
 
 -- ---- over a run
 
-run-remembers : (s : LineState) (asked : List ScriptLine) (points : List Point) → IsRun s asked points → is_some (state_behind s points).unvouched ≡ (is_some s.unvouched || has_lie points)
-run-remembers s [] [] run = or_false (is_some s.unvouched)
-run-remembers s [] (point ∷ points) run = absurd run
-run-remembers s (line ∷ asked) [] run = absurd run
-run-remembers s (line ∷ asked) (point ∷ points) run =
-    run-remembers point.after asked points run.1
-    ∙ ap (λ t. t || has_lie points) (steps-remember (s.lines + 1) line s point.after point.told run.0)
+record RunVouches (s : LineState) (points : List Point) : Type 0 where
+  vouched : s.unvouched ≡ None
+  unlied : has_lie points ≡ false
+
+run-vouches : (s : LineState) (asked : List TrackLine) (points : List Point) → IsRun s asked points → (state_behind s points).unvouched ≡ None → RunVouches s points
+run-vouches s [] [] run none = record { vouched = none; unlied = refl }
+run-vouches s [] (point ∷ points) run none = absurd run
+run-vouches s (line ∷ asked) [] run none = absurd run
+run-vouches s (line ∷ asked) (point ∷ points) run none =
+    let later = run-vouches point.after asked points run.1 none in
+    let here = track-vouches (s.lines + 1) line s point.after point.told run.0 later.vouched in
+    record { vouched = here.vouched; unlied = or_from (tells_lie point.told) (has_lie points) here.unlied later.unlied }
+
+-- A TRACK FOR WHICH SOMEBODY VOUCHES told nothing that was not so, nor let a board come or go unseen
+pub none_lied : (asked : List TrackLine) (points : List Point) → IsRun no_line asked points → (state_behind no_line points).unvouched ≡ None → has_lie points ≡ false
+none_lied asked points run none = (run-vouches no_line asked points run none).unlied
+
+-- ---- over a script
+
+play-remembers : (s : LineState) (parts : List Part) (points : List Point) → IsPlay s parts points → is_some (state_behind s points).unvouched ≡ (is_some s.unvouched || has_lie points)
+play-remembers s [] [] play = or_false (is_some s.unvouched)
+play-remembers s [] (point ∷ points) play = absurd play
+play-remembers s (part ∷ parts) [] play = absurd play
+play-remembers s (part ∷ parts) (point ∷ points) play =
+    play-remembers point.after parts points play.1
+    ∙ ap (λ t. t || has_lie points) (steps-remember (s.lines + 1) (part.line s) s point.after point.told play.0.steps)
     ∙ or_assoc (is_some s.unvouched) (tells_lie point.told) (has_lie points)
 
 -- A LINE IS UNVOUCHED exactly where one of the lines of its script told what was not so, or let a board come or go unseen
-pub lies_remembered : (asked : List ScriptLine) (points : List Point) → IsRun no_line asked points → is_some (state_behind no_line points).unvouched ≡ has_lie points
-lies_remembered asked points run = run-remembers no_line asked points run
+pub script_remembered : (asked : List ScriptLine) (points : List Point) → IsScriptRun no_line asked points → is_some (state_behind no_line points).unvouched ≡ has_lie points
+script_remembered asked points run = play-remembers no_line (script_parts asked) points run

@@ -13,7 +13,7 @@ use Rattle.line_report.specs.declared.happening.Happening.{Happening}
 use Rattle.line_report.specs.declared.happening.Happening.TheVariants as happenings
 use Rattle.line_step.specs.State.{LineState, no_line}
 use Rattle.line_step.specs.Runs.{Point, IsRun}
-use Rattle.line_script.specs.declared.line.ScriptLine.{ScriptLine}
+use Rattle.line_step.specs.Tracks.{TrackLine}
 
 -- all boards on the floor
 abbrev pub boards_of : LineState → List Board
@@ -91,4 +91,4 @@ pub record HasOwnIds (points : List Point) : Type 0 where
 -- THE LAW: it holds of every run
 abbrev pub IdsStay : Type 0
 IdsStay =
-    (asked : List ScriptLine) (points : List Point) → IsRun no_line asked points → HasOwnIds points
+    (asked : List TrackLine) (points : List Point) → IsRun no_line asked points → HasOwnIds points

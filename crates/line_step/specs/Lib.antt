@@ -10,6 +10,7 @@ pub mod Reasons
 pub mod Shown
 pub mod Lines
 pub mod Views
+pub mod Tracks
 pub mod Runs
 pub mod Parts
 pub mod Named

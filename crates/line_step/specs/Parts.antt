@@ -8,6 +8,7 @@ use Rattle.line_script.specs.declared.line.ScriptLine.TheVariants as lines
 use Rattle.line_step.specs.State.{LineState}
 use Rattle.line_step.specs.Reasons.{May, may_cut, may_notice}
 use Rattle.line_step.specs.Lines.{LineSteps}
+use Rattle.line_step.specs.Tracks.{TrackLine, own_line}
 use Rattle.line_step.specs.Runs.{Point, all_told, state_behind}
 use Rattle.line_report.specs.declared.happening.Happening.{Happening}
 
@@ -73,11 +74,11 @@ abbrev pub IsScriptRun : LineState → List ScriptLine → List Point → Type 0
 IsScriptRun s asked points = IsPlay s (script_parts asked) points
 
 -- the lines that parts were, each in view of the state before it
-abbrev pub lines_played : LineState → List Part → List Point → List ScriptLine
+abbrev pub lines_played : LineState → List Part → List Point → List TrackLine
 lines_played s [] points = []
 lines_played s (part ∷ parts) [] = []
 lines_played s (part ∷ parts) (point ∷ points) =
-    part.line s ∷ lines_played point.after parts points
+    own_line (part.line s) ∷ lines_played point.after parts points
 
 -- ---- ONE LINE OF A SCRIPT: what its parts did, and all that they told
 pub record ScriptLineSteps (line : ScriptLine) (before after : LineState)

@@ -1,9 +1,9 @@
--- THE RUN: the lines of a script, one after another, from a line without a machine on.
+-- THE RUN of a track: the lines of a script, one after another, from a line without a machine on. A
+-- line of one lane has its own lines alone.
 use Rattle.std.specs.Prelude.{ℕ, ◌+◌, ◌≤◌, ◌++◌, List, [], ◌∷◌}
 use Rattle.std.specs.List.{flat_map}
-use Rattle.line_script.specs.declared.line.ScriptLine.{ScriptLine}
 use Rattle.line_step.specs.State.{LineState}
-use Rattle.line_step.specs.Lines.{LineSteps}
+use Rattle.line_step.specs.Tracks.{TrackLine, TrackSteps}
 use Rattle.line_report.specs.Texts.{entry}
 use Rattle.line_report.specs.declared.happening.Happening.{Happening}
 
@@ -12,14 +12,14 @@ pub record Point : Type 0 where
   pub told : List Happening
   pub after : LineState
 
--- these are the points of a run: each line is a line step, with the number that is due. The count
+-- these are the points of a run: each line is a step, with the number that is due. The count
 -- goes on behind it, or stays where it is a part of a script's line and more of that follows
-abbrev pub IsRun : LineState → List ScriptLine → List Point → Type 0
+abbrev pub IsRun : LineState → List TrackLine → List Point → Type 0
 IsRun s [] [] = Unit {0}
 IsRun s [] (_ ∷ _) = ⊥
 IsRun s (_ ∷ _) [] = ⊥
 IsRun s (line ∷ lines) (point ∷ points) =
-    LineSteps (s.lines + 1) line s point.after point.told × IsRun point.after lines points
+    TrackSteps (s.lines + 1) line s point.after point.told × IsRun point.after lines points
 
 -- the state behind them
 abbrev pub state_behind : LineState → List Point → LineState

@@ -29,19 +29,22 @@ use Rattle.link_messages.specs.Fit.{IsFitInput}
 use Rattle.line_step.specs.Lines.{Connects, Flows, LineSteps, cut_in, lied, met, moved, spoiled, unseen}
 use Rattle.line_step.specs.Numbered.{Stand, no_node, node_at}
 use Rattle.line_step.specs.Reasons.{may_do, may_flow}
+use Rattle.line_step.specs.Tracks.{TrackLine, TrackSteps, IsBeside, other_line, own_line}
 use Rattle.line_step.specs.Runs.{IsRun, Point, IsShort}
 use Rattle.line_step.specs.Shown.{standings_told}
 use Rattle.line_step.specs.State.{LineState, machine_in, no_line, one_more, profile_of}
 use Rattle.line_step.specs.Steps.{MachineSteps, is_second, read_by}
 use Rattle.line_step.specs.Together.{IsLineTogether}
 use Rattle.line_step.specs.World.{link_at, link_of}
+use Rattle.node_core.specs.declared.lane.Lane.{Lane}
+use Rattle.line_step.proofs.Beside.{beside-lane}
 use Rattle.line_step.proofs.Changing.{more_changes}
 use Rattle.line_step.proofs.Keeps.{does_together, more_at}
 use Rattle.line_step.proofs.Numbers.{link_beyond, machine_within, same_or_not}
 use Rattle.one_standing.specs.Blame.{AreBlamesTrue, IsBlameTrue, NoFalseBlame, WasSpoiled}
 use Rattle.one_standing.specs.Carried.{Trace}
 use Rattle.one_standing.specs.Links.{AreWholeLinks}
-use Rattle.one_standing.specs.Standing.{IsFitLine}
+use Rattle.one_standing.specs.Standing.{IsFitLine, IsFitTrack}
 use Rattle.one_standing.specs.Stands.{Stands}
 use Rattle.one_standing.specs.Told.{IsTold, told_first}
 use Rattle.one_standing.specs.Waits.{AreWaiting}
@@ -302,9 +305,28 @@ line_clear past number line before after told alone few fit was all steps =
     let clear : AreClearIn (TaintBy (past ++ told)) next = effect_clear number (request_of line) was.trace before next steps.done (fit_request line fit) taints given (line_effect number line before next steps.done steps.does) in
     subst (λ (s : LineState). AreClearIn (TaintBy (past ++ told)) s) (sym steps.after_is) (same_clear next (record next { lines = steps.lines }) refl (λ k. refl) clear)
 
+-- a line of another track
+track_blame : (past : List Happening) (number : ℕ) (line : TrackLine) (t : Trace) (before after : LineState) (told : List Happening) → SaysAlone → Stands t before → AreClearIn (TaintBy past) before → TrackSteps number line before after told → IsBlameTrue past told
+track_blame past number (own_line line) t before after told alone holds all steps = line_blame past number line t before after told alone holds all steps
+track_blame past number other_line t before after told alone holds all steps =
+    λ machine side text is. blame_told (WasSpoiled past) machine side text told (subst (λ (hs : List Happening). AllBlames (WasSpoiled past) hs) (sym steps.1) tt) is
+
+beside_ready : (s t : LineState) → IsBeside s t → (link : ℕ) (side : Side) → ready_of s link side ≡ true → ready_of t link side ≡ true
+beside_ready s t beside link Exit is = ap (λ (l : Lane). is_ready Exit l.body) (beside-lane s t link beside) ∙ is
+beside_ready s t beside link Entry is = ap (λ (l : Lane). is_ready Entry l.body) (beside-lane s t (link + 1) beside) ∙ is
+
+beside_clear : {Taint : ℕ → Side → Type 0} (s t : LineState) → IsBeside s t → AreClearIn Taint s → AreClearIn Taint t
+beside_clear s t beside all =
+    are_clear_by t.world (λ k. ap (λ (l : Lane). l.exit_bytes) (beside-lane s t k beside)) (λ k. ap (λ (l : Lane). l.entry_bytes) (beside-lane s t (k + 1) beside))
+    (are_clear_ready (ready_of t) t.world (beside_ready s t beside) (links_clear s t (λ k. ap (link_at k) beside.world) all))
+
+track_clear : (past : List Happening) (number : ℕ) (line : TrackLine) (before after : LineState) (told : List Happening) → SaysAlone → number ≤ 1000000 → IsFitTrack line → Stood before → AreClearIn (TaintBy past) before → TrackSteps number line before after told → AreClearIn (TaintBy (past ++ told)) after
+track_clear past number (own_line line) before after told alone few fit was all steps = line_clear past number line before after told alone few fit was all steps
+track_clear past number other_line before after told alone few fit was all steps = are_clear_map after.world (taint_more past told) (beside_clear before after steps.0 all)
+
 -- ---- along a run
 
-blame_run : SaysAlone → (past : List Happening) (s : LineState) (asked : List ScriptLine) (points : List Point) (n : ℕ) → AllByRecursion IsFitLine asked → IsShort s points → Stood s → IsRun s asked points → AreStood (take n points) → AreClearIn (TaintBy past) s
+blame_run : SaysAlone → (past : List Happening) (s : LineState) (asked : List TrackLine) (points : List Point) (n : ℕ) → AllByRecursion IsFitTrack asked → IsShort s points → Stood s → IsRun s asked points → AreStood (take n points) → AreClearIn (TaintBy past) s
     → AreBlamesTrue past (take n points)
 blame_run alone past s asked points zero fit few was run all clear = tt
 blame_run alone past s [] [] (suc n) fit few was run all clear = tt
@@ -313,8 +335,8 @@ blame_run alone past s (line ∷ asked) [] (suc n) fit few was run all clear = e
 blame_run alone past s (line ∷ asked) (point ∷ points) (suc n) fit few was run all clear =
     let here : s.lines + 1 ≤ 1000000 = few.0 in
     let left : IsShort point.after points = few.1 in (
-      line_blame past (s.lines + 1) line was.trace s point.after point.told alone was.stands clear run.0,
-      blame_run alone (past ++ point.told) point.after asked points n fit.1 left all.0 run.1 all.1 (line_clear past (s.lines + 1) line s point.after point.told alone here fit.0 was clear run.0),
+      track_blame past (s.lines + 1) line was.trace s point.after point.told alone was.stands clear run.0,
+      blame_run alone (past ++ point.told) point.after asked points n fit.1 left all.0 run.1 all.1 (track_clear past (s.lines + 1) line s point.after point.told alone here fit.0 was clear run.0),
     )
 
 none_at : (Taint : ℕ → Side → Type 0) (link : ℕ) → IsClear (Taint link Exit) (Taint link Entry) (ready_of no_line link) (none_free link) (exits_of no_line link) (entries_of no_line link) (link_at link no_line.world)

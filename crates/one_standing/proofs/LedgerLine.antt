@@ -69,7 +69,7 @@ led_both {Old = Old} {after = after} {ledger = ledger} a b one two = record {
 -- ---- nothing is done with a record
 
 -- each machine owns what it did
-abbrev OwnSame : LineState → LineState → Type 0
+abbrev pub OwnSame : LineState → LineState → Type 0
 OwnSame before after = (machine : ℕ) → owned_by (node_at after machine) ≡ owned_by (node_at before machine)
 
 fits_same : {Older Old : ℕ → Type 0} (before after : LineState) (ledger : Ledger) → OwnSame before after → ((x : ℕ) → Older x → Old x) → FitsLine Older before ledger → FitsLine Old after ledger
@@ -80,7 +80,7 @@ fits_same before after ledger same more fits = record {
   olds = λ x seen. more x (fits.olds x seen);
 }
 
-still_led : {Older Old : ℕ → Type 0} (before after : LineState) (ledger : Ledger) (told : List Happening) → OwnSame before after → deeds_of told ≡ [] → ((x : ℕ) → Older x → Old x) → FitsLine Older before ledger → Led Old after ledger told
+pub still_led : {Older Old : ℕ → Type 0} (before after : LineState) (ledger : Ledger) (told : List Happening) → OwnSame before after → deeds_of told ≡ [] → ((x : ℕ) → Older x → Old x) → FitsLine Older before ledger → Led Old after ledger told
 still_led before after ledger told same none more fits = led_told told [] none (record { legal = tt; fits = fits_same before after ledger same more fits })
 
 pub same_nodes : (s t : LineState) → t.machines ≡ s.machines → (machine : ℕ) → node_at t machine ≡ node_at s machine

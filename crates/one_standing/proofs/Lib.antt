@@ -5,6 +5,7 @@ pub mod Behind
 pub mod BlameFlows
 pub mod BlameFree
 pub mod BlameJoins
+pub mod Beside
 pub mod BlameLines
 pub mod BlameLinks
 pub mod BlameReady

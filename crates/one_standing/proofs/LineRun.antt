@@ -6,6 +6,7 @@ use Rattle.line_script.specs.declared.line.ScriptLine.{ScriptLine}
 use Rattle.line_report.specs.declared.happening.Happening.{Happening}
 use Rattle.line_step.specs.Lies.{has_lie, is_lie, tells_lie}
 use Rattle.line_step.specs.Lines.{LineDoes, LineSteps}
+use Rattle.line_step.specs.Tracks.{TrackLine, TrackSteps, other_line, own_line}
 use Rattle.line_step.specs.Runs.{IsRun, Point, IsShort}
 use Rattle.line_step.specs.Shown.{standings_told}
 use Rattle.line_step.specs.State.{LineState, no_line}
@@ -13,10 +14,11 @@ use Rattle.line_step.specs.Together.{IsLineTogether}
 use Rattle.line_step.proofs.Keeps.{does_together, lines_stay}
 use Rattle.one_standing.specs.Carried.{Trace}
 use Rattle.one_standing.specs.Stands.{Stands}
-use Rattle.one_standing.specs.Standing.{HasOneStanding, IsFitLine, OneStanding}
+use Rattle.one_standing.specs.Standing.{HasOneStanding, IsFitLine, IsFitTrack, OneStanding}
 use Rattle.one_standing.specs.Waits.{AreWaiting}
 use Rattle.one_standing.proofs.ApartStep.{does_goes, told_before}
 use Rattle.one_standing.proofs.Behind.{Bears}
+use Rattle.one_standing.proofs.Beside.{beside_stands, beside_waits}
 use Rattle.one_standing.proofs.Carrying.{SaysAlone}
 use Rattle.one_standing.proofs.HandSteps.{Around}
 use Rattle.one_standing.proofs.LineForms.{ConnectsBear, line_bears}
@@ -64,12 +66,19 @@ line_stood alone connects number line before after told is few fit honest was st
       waits = λ machine. stood.waits machine;
     })
 
+-- and so does one of another track
+pub track_stood : SaysAlone → ConnectsBear → (number : ℕ) (line : TrackLine) (before after : LineState) (told : List Happening) → number ≡ before.lines + 1 → number ≤ 1000000 → IsFitTrack line → tells_lie told ≡ false → Stood before → TrackSteps number line before after told → Stood after
+track_stood alone connects number (own_line line) before after told is few fit honest was steps = line_stood alone connects number line before after told is few fit honest was steps
+track_stood alone connects number other_line before after told is few fit honest was steps =
+    let counted : after.lines ≤ 1000000 = omega (arith, is, few, steps.0.counts.most) in
+    record { trace = was.trace; stands = beside_stands was.trace before after counted steps.0 was.stands; waits = beside_waits before after steps.0 was.waits }
+
 -- ---- along a run
 
 abbrev pub AreStood : List Point → Type 0
 AreStood points = AllByRecursion (λ (point : Point). Stood point.after) points
 
-pub run_stood : SaysAlone → ConnectsBear → (s : LineState) (asked : List ScriptLine) (points : List Point) (n : ℕ) → AllByRecursion IsFitLine asked → IsShort s points → Stood s → IsRun s asked points → has_lie (take n points) ≡ false → AreStood (take n points)
+pub run_stood : SaysAlone → ConnectsBear → (s : LineState) (asked : List TrackLine) (points : List Point) (n : ℕ) → AllByRecursion IsFitTrack asked → IsShort s points → Stood s → IsRun s asked points → has_lie (take n points) ≡ false → AreStood (take n points)
 run_stood alone connects s asked points zero fit few was run honest = tt
 run_stood alone connects s [] [] (suc n) fit few was run honest = tt
 run_stood alone connects s [] (point ∷ points) (suc n) fit few was run honest = elim run [ ]
@@ -78,7 +87,7 @@ run_stood alone connects s (line ∷ asked) (point ∷ points) (suc n) fit few w
     let one : tells_lie point.told ≡ false = (or_parts (tells_lie point.told) (has_lie (take n points)) honest).0 in
     let others : has_lie (take n points) ≡ false = (or_parts (tells_lie point.told) (has_lie (take n points)) honest).1 in
     let here : s.lines + 1 ≤ 1000000 = few.0 in
-    let stood : Stood point.after = line_stood alone connects (s.lines + 1) line s point.after point.told refl here fit.0 one was run.0 in
+    let stood : Stood point.after = track_stood alone connects (s.lines + 1) line s point.after point.told refl here fit.0 one was run.0 in
     let left : IsShort point.after points = few.1 in
     (stood, run_stood alone connects point.after asked points n fit.1 left stood run.1 others)
 

@@ -8,11 +8,12 @@ use Rattle.line_script.specs.declared.line.ScriptLine.TheVariants as lines
 use Rattle.line_step.specs.State.{LineState, no_line}
 use Rattle.line_step.specs.Reasons.{May, may_cut, may_notice}
 use Rattle.line_step.specs.Parts.{IsPlay, Part, cut_where, entry_where, exit_where, lines_played, parts_of, script_parts, where_may}
+use Rattle.line_step.specs.Tracks.{TrackLine}
 use Rattle.line_step.specs.Runs.{IsRun, IsShort, Point, state_behind}
 use Rattle.line_step.proofs.Playing.{line-short, play-run, short-append}
 use Rattle.line_step.proofs.Running.{behind-append, run-append}
 use Rattle.one_standing.specs.Reached.{IsReached}
-use Rattle.one_standing.specs.Standing.{IsFitLine}
+use Rattle.one_standing.specs.Standing.{IsFitLine, IsFitTrack}
 
 -- a part is a fit line, whatever state stands before it
 pub record IsFitPart (part : Part) : Type 0 where
@@ -40,25 +41,25 @@ script_fit : (asked : List ScriptLine) → AllByRecursion IsFitLine asked → Al
 script_fit [] fit = tt
 script_fit (line ∷ asked) fit = both_fit (parts_of line) (script_parts asked) (parts_fit line fit.0) (script_fit asked fit.1)
 
-play_fit : (s : LineState) (parts : List Part) (points : List Point) → AllByRecursion IsFitPart parts → AllByRecursion IsFitLine (lines_played s parts points)
+play_fit : (s : LineState) (parts : List Part) (points : List Point) → AllByRecursion IsFitPart parts → AllByRecursion IsFitTrack (lines_played s parts points)
 play_fit s [] points fit = tt
 play_fit s (part ∷ parts) [] fit = tt
 play_fit s (part ∷ parts) (point ∷ points) fit = (fit.0.fit s, play_fit point.after parts points fit.1)
 
 -- THE LINES OF A SCRIPT'S RUN ARE FIT where those of the script are
-pub script_played_fit : (s : LineState) (asked : List ScriptLine) (points : List Point) → AllByRecursion IsFitLine asked → AllByRecursion IsFitLine (lines_played s (script_parts asked) points)
+pub script_played_fit : (s : LineState) (asked : List ScriptLine) (points : List Point) → AllByRecursion IsFitLine asked → AllByRecursion IsFitTrack (lines_played s (script_parts asked) points)
 script_played_fit s asked points fit = play_fit s (script_parts asked) points (script_fit asked fit)
 
-pub line_played_fit : (s : LineState) (line : ScriptLine) (points : List Point) → IsFitLine line → AllByRecursion IsFitLine (lines_played s (parts_of line) points)
+pub line_played_fit : (s : LineState) (line : ScriptLine) (points : List Point) → IsFitLine line → AllByRecursion IsFitTrack (lines_played s (parts_of line) points)
 line_played_fit s line points fit = play_fit s (parts_of line) points (parts_fit line fit)
 
 -- ---- a run behind a line that a run has led to
 
-fit_both : (asked others : List ScriptLine) → AllByRecursion IsFitLine asked → AllByRecursion IsFitLine others → AllByRecursion IsFitLine (asked ++ others)
+fit_both : (asked others : List TrackLine) → AllByRecursion IsFitTrack asked → AllByRecursion IsFitTrack others → AllByRecursion IsFitTrack (asked ++ others)
 fit_both [] others one two = two
 fit_both (line ∷ asked) others one two = (one.0, fit_both asked others one.1 two)
 
-pub reached_behind : (before : LineState) (asked : List ScriptLine) (points : List Point) → IsReached before → AllByRecursion IsFitLine asked → IsShort before points → IsRun before asked points → (state_behind before points).lines ≤ 1000000 → IsReached (state_behind before points)
+pub reached_behind : (before : LineState) (asked : List TrackLine) (points : List Point) → IsReached before → AllByRecursion IsFitTrack asked → IsShort before points → IsRun before asked points → (state_behind before points).lines ≤ 1000000 → IsReached (state_behind before points)
 reached_behind before asked points was fit short run few =
     let at : LineState → Type 0 = λ s. IsRun s asked points in
     let brief : LineState → Type 0 = λ s. IsShort s points in

@@ -1,7 +1,6 @@
 -- The laws of a line that a run has led to.
 use Rattle.std.proofs.Common.{Bool, List, None, [], ap, arith, false, length, refl, subst, sym, ℕ, ◌++◌, ◌+◌, ◌∙◌, ◌∷◌, ◌≡◌, ◌≤◌}
 use Rattle.std.proofs.lemmas.Bool.{or_parts, or_from}
-use Rattle.std.specs.Prelude.{Option, is_some}
 use Rattle.std.specs.List.{AllByRecursion}
 use Rattle.line_script.specs.declared.line.ScriptLine.{ScriptLine}
 use Rattle.line_report.specs.declared.happening.Happening.{Happening}
@@ -9,22 +8,23 @@ use Rattle.standings.specs.Ledger.{Ledger, empty_ledger, ledger_after_all}
 use Rattle.line_step.specs.FloorIds.{boards_of}
 use Rattle.line_step.specs.Lies.{has_lie, tells_lie}
 use Rattle.line_step.specs.Lines.{LineSteps}
+use Rattle.line_step.specs.Tracks.{TrackLine, TrackSteps, other_line, own_line}
 use Rattle.line_step.specs.Runs.{IsRun, Point, state_behind, IsShort}
 use Rattle.line_step.specs.State.{LineState, marks_in, no_line}
-use Rattle.line_step.proofs.FloorLaws.{Holds, steps-goes}
+use Rattle.line_step.proofs.FloorLaws.{Holds, track-goes}
 use Rattle.line_step.proofs.Makers.{IsOld}
-use Rattle.line_step.proofs.Vouching.{lies_remembered}
+use Rattle.line_step.proofs.Vouching.{none_lied}
 use Rattle.one_standing.specs.Reached.{Books, CustodyAlong, IdsAlong, IsBook, IsReached, LedgerAlong, StandsAlong}
 use Rattle.one_standing.specs.Replay.{deeds_of}
-use Rattle.one_standing.specs.Standing.{IsFitLine}
+use Rattle.one_standing.specs.Standing.{IsFitTrack}
 use Rattle.one_standing.proofs.Carrying.{SaysAlone}
 use Rattle.one_standing.proofs.FactsOf.{facts_of}
 use Rattle.one_standing.proofs.LedgerLine.{Led, line_led}
 use Rattle.one_standing.proofs.LedgerMarks.{FitsLine, entries_of, ledger_of, mark_old}
-use Rattle.one_standing.proofs.LedgerRun.{none_fits}
+use Rattle.one_standing.proofs.LedgerRun.{none_fits, track_led}
 use Rattle.one_standing.proofs.LedgerStandings.{standing_told}
 use Rattle.one_standing.proofs.LineForms.{ConnectsBear}
-use Rattle.one_standing.proofs.LineRun.{Stood, line_stood, none_stood}
+use Rattle.one_standing.proofs.LineRun.{Stood, none_stood, track_stood}
 use Rattle.one_standing.proofs.MarksOf.{first_among, mark_stands}
 use Rattle.one_standing.proofs.OneStand.{one_standing_of}
 use Rattle.one_standing.proofs.Reaching.{behind_more, boards_made, made_of, old_of, reached_run}
@@ -41,8 +41,8 @@ honest_last : (points : List Point) (point : Point) → has_lie (points ++ point
 honest_last [] point is = (or_parts (tells_lie point.told) false is).0
 honest_last (first ∷ points) point is = honest_last points point (or_parts (tells_lie first.told) (has_lie (points ++ point ∷ [])) is).1
 
-honest_run : (s : LineState) (asked : List ScriptLine) (points : List Point) → IsRun no_line asked points → state_behind no_line points ≡ s → s.unvouched ≡ None → has_lie points ≡ false
-honest_run s asked points run behind none = sym (lies_remembered asked points run) ∙ ap (λ (t : LineState). is_some t.unvouched) behind ∙ ap (λ (o : Option ℕ). is_some o) none
+honest_run : (s : LineState) (asked : List TrackLine) (points : List Point) → IsRun no_line asked points → state_behind no_line points ≡ s → s.unvouched ≡ None → has_lie points ≡ false
+honest_run s asked points run behind none = none_lied asked points run (ap (λ (t : LineState). t.unvouched) behind ∙ none)
 
 honest : (s : LineState) (reached : IsReached s) → s.unvouched ≡ None → has_lie reached.points ≡ false
 honest s reached none = honest_run s reached.asked reached.points reached.run reached.behind none
@@ -54,13 +54,13 @@ record Told (s : LineState) : Type 0 where
   ledger : Ledger
   fits : FitsLine (IsOld 1 s.machines) s ledger
 
-told_line : SaysAlone → ConnectsBear → (line : ScriptLine) (before after : LineState) (told : List Happening) → before.lines + 1 ≤ 1000000 → IsFitLine line → tells_lie told ≡ false → Told before → LineSteps (before.lines + 1) line before after told → Told after
+told_line : SaysAlone → ConnectsBear → (line : TrackLine) (before after : LineState) (told : List Happening) → before.lines + 1 ≤ 1000000 → IsFitTrack line → tells_lie told ≡ false → Told before → TrackSteps (before.lines + 1) line before after told → Told after
 told_line alone connects line before after told few fit none was steps =
-    let stood : Stood after = line_stood alone connects (before.lines + 1) line before after told refl few fit none was.stood steps in
-    let led : Led (IsOld 1 after.machines) after was.ledger told = line_led was.stood.trace stood.trace (before.lines + 1) line before after told was.ledger was.stood.stands stood.stands steps was.fits in
+    let stood : Stood after = track_stood alone connects (before.lines + 1) line before after told refl few fit none was.stood steps in
+    let led : Led (IsOld 1 after.machines) after was.ledger told = track_led was.stood.trace stood.trace (before.lines + 1) line before after told was.ledger was.stood.stands stood.stands steps was.fits in
     record { stood = stood; ledger = ledger_after_all was.ledger (deeds_of told); fits = led.fits }
 
-told_run : SaysAlone → ConnectsBear → (s : LineState) (asked : List ScriptLine) (points : List Point) → AllByRecursion IsFitLine asked → IsShort s points → Told s → IsRun s asked points → has_lie points ≡ false → Told (state_behind s points)
+told_run : SaysAlone → ConnectsBear → (s : LineState) (asked : List TrackLine) (points : List Point) → AllByRecursion IsFitTrack asked → IsShort s points → Told s → IsRun s asked points → has_lie points ≡ false → Told (state_behind s points)
 told_run alone connects s [] [] fit few was run none = was
 told_run alone connects s [] (point ∷ points) fit few was run none = absurd run
 told_run alone connects s (line ∷ asked) [] fit few was run none = absurd run
@@ -88,11 +88,11 @@ custody_along alone connects s reached none =
 
 -- ---- unique ids
 
-holds_run : (s : LineState) (asked : List ScriptLine) (points : List Point) → Holds s → IsRun s asked points → Holds (state_behind s points)
+holds_run : (s : LineState) (asked : List TrackLine) (points : List Point) → Holds s → IsRun s asked points → Holds (state_behind s points)
 holds_run s [] [] was run = was
 holds_run s [] (point ∷ points) was run = absurd run
 holds_run s (line ∷ asked) [] was run = absurd run
-holds_run s (line ∷ asked) (point ∷ points) was run = holds_run point.after asked points (steps-goes (s.lines + 1) line s point.after point.told was run.0).holds run.1
+holds_run s (line ∷ asked) (point ∷ points) was run = holds_run point.after asked points (track-goes (s.lines + 1) line s point.after point.told was run.0).holds run.1
 
 pub ids_along : SaysAlone → ConnectsBear → IdsAlong
 ids_along alone connects s reached =
@@ -122,10 +122,10 @@ books_line before after line told ledger was now steps book =
 pub ledger_along : SaysAlone → ConnectsBear → LedgerAlong
 ledger_along alone connects line before after told reached fit few steps none =
     let point : Point = record { told = told; after = after } in
-    let run : IsRun no_line (reached.asked ++ line ∷ []) (reached.points ++ point ∷ []) = reached_run line before after told reached steps in
-    let all : has_lie (reached.points ++ point ∷ []) ≡ false = honest_run after (reached.asked ++ line ∷ []) (reached.points ++ point ∷ []) run (behind_more no_line reached.points point) none in
+    let run : IsRun no_line (reached.asked ++ own_line line ∷ []) (reached.points ++ point ∷ []) = reached_run line before after told reached steps in
+    let all : has_lie (reached.points ++ point ∷ []) ≡ false = honest_run after (reached.asked ++ own_line line ∷ []) (reached.points ++ point ∷ []) run (behind_more no_line reached.points point) none in
     let was : Told before = told_by alone connects before reached (honest_before reached.points point all) in
-    let now : Told after = told_line alone connects line before after told few fit (honest_last reached.points point all) was steps in
+    let now : Told after = told_line alone connects (own_line line) before after told few fit (honest_last reached.points point all) was steps in
     record {
       ledger = was.ledger;
       beside = book_of before was.ledger was.fits;
@@ -138,6 +138,6 @@ ledger_along alone connects line before after told reached fit few steps none =
 pub stood_before : SaysAlone → ConnectsBear → (line : ScriptLine) (before after : LineState) (told : List Happening) → IsReached before → LineSteps (before.lines + 1) line before after told → after.unvouched ≡ None → Stood before
 stood_before alone connects line before after told reached steps none =
     let point : Point = record { told = told; after = after } in
-    let run : IsRun no_line (reached.asked ++ line ∷ []) (reached.points ++ point ∷ []) = reached_run line before after told reached steps in
-    let all : has_lie (reached.points ++ point ∷ []) ≡ false = honest_run after (reached.asked ++ line ∷ []) (reached.points ++ point ∷ []) run (behind_more no_line reached.points point) none in
+    let run : IsRun no_line (reached.asked ++ own_line line ∷ []) (reached.points ++ point ∷ []) = reached_run line before after told reached steps in
+    let all : has_lie (reached.points ++ point ∷ []) ≡ false = honest_run after (reached.asked ++ own_line line ∷ []) (reached.points ++ point ∷ []) run (behind_more no_line reached.points point) none in
     (told_by alone connects before reached (honest_before reached.points point all)).stood

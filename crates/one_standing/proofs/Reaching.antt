@@ -9,22 +9,23 @@ use Rattle.line_script.specs.declared.line.ScriptLine.{ScriptLine}
 use Rattle.line_report.specs.declared.happening.Happening.{Happening}
 use Rattle.node_core.specs.Node.{NodeState}
 use Rattle.line_step.specs.Lines.{Counts, LineSteps}
+use Rattle.line_step.specs.Tracks.{TrackLine, TrackSteps, own_line}
 use Rattle.line_step.specs.Runs.{IsRun, Point, state_behind}
 use Rattle.line_step.specs.State.{LineState, machine_in, no_line}
 use Rattle.line_step.proofs.Makers.{IsMadeBy, IsOld}
 use Rattle.one_standing.specs.Reached.{HasMadeId, IsMade, IsReached}
-use Rattle.one_standing.specs.Standing.{IsFitLine}
+use Rattle.one_standing.specs.Standing.{IsFitLine, IsFitTrack}
 
 -- ---- a line more
 
 pub none_reached : IsReached no_line
 none_reached = record { asked = []; points = []; fit = tt; short = tt; few = omega arith; run = tt; behind = refl }
 
-pub fit_more : (asked : List ScriptLine) (line : ScriptLine) → AllByRecursion IsFitLine asked → IsFitLine line → AllByRecursion IsFitLine (asked ++ line ∷ [])
+pub fit_more : (asked : List TrackLine) (line : TrackLine) → AllByRecursion IsFitTrack asked → IsFitTrack line → AllByRecursion IsFitTrack (asked ++ line ∷ [])
 fit_more [] line fit one = (one, tt)
 fit_more (first ∷ asked) line fit one = (fit.0, fit_more asked line fit.1 one)
 
-pub run_more : (s : LineState) (asked : List ScriptLine) (points : List Point) (line : ScriptLine) (point : Point) → IsRun s asked points → LineSteps ((state_behind s points).lines + 1) line (state_behind s points) point.after point.told → IsRun s (asked ++ line ∷ []) (points ++ point ∷ [])
+pub run_more : (s : LineState) (asked : List TrackLine) (points : List Point) (line : TrackLine) (point : Point) → IsRun s asked points → TrackSteps ((state_behind s points).lines + 1) line (state_behind s points) point.after point.told → IsRun s (asked ++ line ∷ []) (points ++ point ∷ [])
 run_more s [] [] line point run steps = (steps, tt)
 run_more s [] (first ∷ points) line point run steps = absurd run
 run_more s (first ∷ asked) [] line point run steps = absurd run
@@ -34,9 +35,9 @@ pub behind_more : (s : LineState) (points : List Point) (point : Point) → stat
 behind_more s [] point = refl
 behind_more s (first ∷ points) point = behind_more first.after points point
 
-pub reached_run : (line : ScriptLine) (before after : LineState) (told : List Happening) → (was : IsReached before) → LineSteps (before.lines + 1) line before after told → IsRun no_line (was.asked ++ line ∷ []) (was.points ++ record { told = told; after = after } ∷ [])
+pub reached_run : (line : ScriptLine) (before after : LineState) (told : List Happening) → (was : IsReached before) → LineSteps (before.lines + 1) line before after told → IsRun no_line (was.asked ++ own_line line ∷ []) (was.points ++ record { told = told; after = after } ∷ [])
 reached_run line before after told was steps =
-    run_more no_line was.asked was.points line (record { told = told; after = after }) was.run
+    run_more no_line was.asked was.points (own_line line) (record { told = told; after = after }) was.run
     (subst (λ (s : LineState). LineSteps (s.lines + 1) line s after told) (sym was.behind) steps)
 
 pub reached_more : (line : ScriptLine) (before after : LineState) (told : List Happening) → IsReached before → IsFitLine line → before.lines + 1 ≤ 1000000 → LineSteps (before.lines + 1) line before after told → IsReached after
@@ -44,9 +45,9 @@ reached_more line before after told was fit few steps =
     let point : Point = record { told = told; after = after } in
     let counts : Counts before.lines after.lines = steps-counts (before.lines + 1) line before after told steps in
     record {
-      asked = was.asked ++ line ∷ [];
+      asked = was.asked ++ own_line line ∷ [];
       points = was.points ++ point ∷ [];
-      fit = fit_more was.asked line was.fit fit;
+      fit = fit_more was.asked (own_line line) was.fit fit;
       short = short-more no_line was.points point was.short (subst (λ (s : LineState). s.lines + 1 ≤ 1000000) (sym was.behind) few);
       few = omega (arith, counts.most, few);
       run = reached_run line before after told was steps;

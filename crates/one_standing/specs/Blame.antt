@@ -3,14 +3,14 @@
 use Rattle.std.specs.Prelude.{List, [], false, length, take, ℕ, ◌++◌, ◌∷◌, ◌≡◌, ◌≤◌}
 use Rattle.std.specs.List.{AllByRecursion}
 use Rattle.line_base.specs.declared.states.Side.{Side}
-use Rattle.line_script.specs.declared.line.ScriptLine.{ScriptLine}
 use Rattle.line_report.specs.declared.happening.Happening.{Happening}
 use Rattle.line_report.specs.declared.happening.Happening.TheVariants as happenings
 use Rattle.node_core.specs.declared.act.Act.TheVariants as acts
 use Rattle.line_step.specs.Lies.{has_lie}
 use Rattle.line_step.specs.Runs.{IsRun, Point, IsShort}
 use Rattle.line_step.specs.State.{no_line}
-use Rattle.one_standing.specs.Standing.{IsFitLine}
+use Rattle.line_step.specs.Tracks.{TrackLine}
+use Rattle.one_standing.specs.Standing.{IsFitTrack}
 use Rattle.one_standing.specs.Told.{IsTold}
 
 -- what flowed to a side of a machine was spoiled by one of the lines that told this
@@ -33,6 +33,6 @@ AreBlamesTrue past (point ∷ points) =
 -- THE LAW: from the empty line on, up to the first line that told what was not so
 abbrev pub NoFalseBlame : Type 0
 NoFalseBlame =
-    (asked : List ScriptLine) (points : List Point) (n : ℕ) → AllByRecursion IsFitLine asked
+    (asked : List TrackLine) (points : List Point) (n : ℕ) → AllByRecursion IsFitTrack asked
     → IsShort no_line points → IsRun no_line asked points → has_lie (take n points) ≡ false
     → AreBlamesTrue [] (take n points)

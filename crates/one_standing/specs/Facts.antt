@@ -14,7 +14,6 @@ use Rattle.line_link.specs.Flow.{coming}
 use Rattle.line_world.specs.FloorPlan.{gap_at, has_id, machine_at}
 use Rattle.line_world.specs.declared.board.Board.{Board}
 use Rattle.line_world.specs.declared.gap.Gap.TheVariants as gaps
-use Rattle.line_script.specs.declared.line.ScriptLine.{ScriptLine}
 use Rattle.handover_out.specs.State.{board_of_phase as held_out}
 use Rattle.handover_in.specs.State.{board_of_phase as held_in}
 use Rattle.node_core.specs.Sides.{is_open}
@@ -29,7 +28,8 @@ use Rattle.line_step.specs.Numbered.{node_at}
 use Rattle.line_step.specs.Runs.{IsRun, Point, IsShort}
 use Rattle.line_step.specs.State.{LineState, no_line, owned_by}
 use Rattle.line_step.specs.World.{link_at}
-use Rattle.one_standing.specs.Standing.{IsFitLine, is_held_at}
+use Rattle.line_step.specs.Tracks.{TrackLine}
+use Rattle.one_standing.specs.Standing.{IsFitTrack, is_held_at}
 
 -- what a machine's intake holds
 abbrev pub is_taken_at : LineState → ℕ → ℕ → Bool
@@ -131,6 +131,6 @@ pub record HasCustodyFacts (s : LineState) : Type 0 where
 -- so
 abbrev pub CustodyFacts : Type 0
 CustodyFacts =
-    (asked : List ScriptLine) (points : List Point) (n : ℕ) → AllByRecursion IsFitLine asked
+    (asked : List TrackLine) (points : List Point) (n : ℕ) → AllByRecursion IsFitTrack asked
     → IsShort no_line points → IsRun no_line asked points → has_lie (take n points) ≡ false
     → AllByRecursion (λ (point : Point). HasCustodyFacts point.after) (take n points)

@@ -14,15 +14,16 @@ use Rattle.line_step.specs.FloorIds.{boards_of}
 use Rattle.line_step.specs.Lines.{LineSteps}
 use Rattle.line_step.specs.Runs.{IsRun, IsShort, Point, state_behind}
 use Rattle.line_step.specs.State.{LineState, machine_in, marks_in, no_line}
+use Rattle.line_step.specs.Tracks.{TrackLine}
 use Rattle.one_standing.specs.Facts.{HasCustodyFacts}
 use Rattle.one_standing.specs.Replay.{IsLedgerOf, IsStandingTold, deeds_of}
-use Rattle.one_standing.specs.Standing.{HasOneStanding, IsFitLine}
+use Rattle.one_standing.specs.Standing.{HasOneStanding, IsFitLine, IsFitTrack}
 
--- the state behind a run of a script: its lines, whose barcodes are texts, and a point for each
+-- the state behind a run of a track: its lines, whose barcodes are texts, and a point for each
 pub record IsReached (s : LineState) : Type 0 where
-  pub asked : List ScriptLine
+  pub asked : List TrackLine
   pub points : List Point
-  pub fit : AllByRecursion IsFitLine asked
+  pub fit : AllByRecursion IsFitTrack asked
   pub short : IsShort no_line points
   pub few : s.lines ≤ 1000000
   pub run : IsRun no_line asked points

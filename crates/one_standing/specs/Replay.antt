@@ -2,7 +2,6 @@
 -- ledger beside the line.
 use Rattle.std.specs.Prelude.{List, [], false, length, take, ℕ, ◌++◌, ◌-◌, ◌∷◌, ◌≡◌, ◌≤◌}
 use Rattle.std.specs.List.{AllByRecursion}
-use Rattle.line_script.specs.declared.line.ScriptLine.{ScriptLine}
 use Rattle.node_core.specs.declared.act.Act.{Act}
 use Rattle.node_core.specs.declared.act.Act.TheVariants as acts
 use Rattle.node_core.specs.declared.act.Deed.{Deed as OwnDeed}
@@ -19,7 +18,8 @@ use Rattle.standings.specs.declared.entry.Entry.{Entry}
 use Rattle.line_step.specs.Lies.{has_lie}
 use Rattle.line_step.specs.Runs.{IsRun, Point, IsShort}
 use Rattle.line_step.specs.State.{LineState, marks_in, no_line}
-use Rattle.one_standing.specs.Standing.{IsFitLine}
+use Rattle.line_step.specs.Tracks.{TrackLine}
+use Rattle.one_standing.specs.Standing.{IsFitTrack}
 
 -- what a machine tells of a handover, as a deed: at its exit of the gap of its number, at its
 -- entry of the one before. A refusal moves no record
@@ -74,6 +74,6 @@ Follows ledger (point ∷ points) =
 -- THE LAW: from the empty ledger on, up to the first line that told what was not so
 abbrev pub LedgerFollows : Type 0
 LedgerFollows =
-    (asked : List ScriptLine) (points : List Point) (n : ℕ) → AllByRecursion IsFitLine asked
+    (asked : List TrackLine) (points : List Point) (n : ℕ) → AllByRecursion IsFitTrack asked
     → IsShort no_line points → IsRun no_line asked points → has_lie (take n points) ≡ false
     → Follows empty_ledger (take n points)

@@ -15,6 +15,7 @@ use Rattle.line_step.specs.Lies.{has_lie}
 use Rattle.line_step.specs.Numbered.{node_at}
 use Rattle.line_step.specs.Runs.{IsRun, Point, IsShort}
 use Rattle.line_step.specs.State.{LineState, marks_in, no_line, owned_by}
+use Rattle.line_step.specs.Tracks.{TrackLine, asked_on}
 use Rattle.machine_custody.specs.Good.{Lies}
 use Rattle.link_messages.specs.Fit.{IsTextIf}
 
@@ -73,10 +74,14 @@ IsFitLine (lines.Query machine barcode) = IsText barcode
 IsFitLine (lines.Sub machine id place barcode) = (place ≤ 999_999_999) × IsTextIf barcode
 IsFitLine _ = Unit {0}
 
+-- so it is of a line on a track
+abbrev pub IsFitTrack : TrackLine → Type 0
+IsFitTrack line = IsFitLine (asked_on line)
+
 -- THE LAW: it holds after each line of every script, up to the first one that told what was not
 -- so. A script has at most 1,000,000 lines
 abbrev pub OneStanding : Type 0
 OneStanding =
-    (asked : List ScriptLine) (points : List Point) (n : ℕ) → AllByRecursion IsFitLine asked
+    (asked : List TrackLine) (points : List Point) (n : ℕ) → AllByRecursion IsFitTrack asked
     → IsShort no_line points → IsRun no_line asked points → has_lie (take n points) ≡ false
     → AllByRecursion (λ (point : Point). HasOneStanding point.after) (take n points)

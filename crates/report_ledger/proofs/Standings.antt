@@ -15,6 +15,8 @@ use Rattle.line_report.specs.declared.happening.Happening.{Happening}
 use Rattle.line_report.specs.declared.happening.Happening.TheVariants as happenings
 use Rattle.line_script.specs.declared.line.ScriptLine.{ScriptLine}
 use Rattle.line_step.specs.Lines.{LineSteps}
+use Rattle.line_step.specs.Tracks.{TrackLine, TrackSteps, other_line, own_line}
+use Rattle.line_step.proofs.Beside.{beside-marks}
 use Rattle.line_step.specs.Runs.{IsRun, Point, state_behind, told_text}
 use Rattle.line_step.specs.Parts.{IsScriptRun, lines_played, script_parts}
 use Rattle.line_step.proofs.Playing.{play-run, script-short}
@@ -277,7 +279,12 @@ line_stands_told number line before after told id place steps stood has =
     ∙ standings_stand before steps.next id place stood (subst Stands same has)
     ∙ ap standing_of (sym same)
 
-run_stands : (id number : ℕ) (s : LineState) (asked : List ScriptLine) (points : List Point) (count : ℕ) (place : Option Place) (tail : List ReportLine) → IsRun s asked points → AreProperPoints (take count points) → AllByRecursion (λ (point : Point). HasOneStanding point.after) (take count points) → AreUnnumbered tail → place ≡ standing_of (marks_in s id)
+track_stands_told : (number : ℕ) (line : TrackLine) (before after : LineState) (told : List Happening) (id : ℕ) (place : Option Place) → TrackSteps number line before after told → place ≡ standing_of (marks_in before id) → Stands (marks_in after id) → stands_along id place told ≡ standing_of (marks_in after id)
+track_stands_told number (own_line line) before after told id place steps stood has = line_stands_told number line before after told id place steps stood has
+track_stands_told number other_line before after told id place steps stood has =
+    ap (stands_along id place) steps.1 ∙ stood ∙ ap standing_of (sym (beside-marks before after id steps.0))
+
+run_stands : (id number : ℕ) (s : LineState) (asked : List TrackLine) (points : List Point) (count : ℕ) (place : Option Place) (tail : List ReportLine) → IsRun s asked points → AreProperPoints (take count points) → AllByRecursion (λ (point : Point). HasOneStanding point.after) (take count points) → AreUnnumbered tail → place ≡ standing_of (marks_in s id)
     → standing_from id place (run_lines number (take count points) ++ tail) ≡ standing_of (marks_in (state_behind s (take count points)) id)
 run_stands id number s asked points zero place tail run proper one none stood = unnumbered_stands id place tail none ∙ stood
 run_stands id number s [] [] (suc count) place tail run proper one none stood = unnumbered_stands id place tail none ∙ stood
@@ -289,7 +296,7 @@ run_stands id number s (line ∷ asked) (point ∷ points) (suc count) place tai
     ap (standing_from id place) (append_assoc (lines_told number told) (run_lines (point.after.lines + 1) (take count points)) tail)
     ∙ told_stands id number place told later (recursion_from_All IsProperHappening told proper.0.each)
     ∙ run_stands id (point.after.lines + 1) point.after asked points count (stands_along id place told) tail run.1 proper.1 one.1 none
-    (line_stands_told (s.lines + 1) line s point.after told id place run.0 stood (one.0.each id))
+    (track_stands_told (s.lines + 1) line s point.after told id place run.0 stood (one.0.each id))
 
 -- ---- THE LAW
 

@@ -44,20 +44,27 @@ use Rattle.standings.specs.declared.mark.Mark.TheVariants.{Kept, Outlet, Intake}
 use Rattle.line_report.specs.declared.happening.Happening.{Happening}
 use Rattle.line_step.specs.Lies.{has_lie, tells_lie}
 use Rattle.line_step.specs.Lines.{LineSteps}
+use Rattle.line_step.specs.Numbered.{node_at}
+use Rattle.line_step.specs.Tracks.{IsBeside, TrackLine, TrackSteps, other_line, own_line}
+use Rattle.line_step.specs.World.{WorldParts}
+use Rattle.line_step.proofs.Beside.{beside-lane, beside-old}
+use Rattle.node_core.specs.declared.lane.Lane.{Lane}
+use Rattle.line_world.specs.Boards.{boards_on}
+use Rattle.line_world.specs.FloorPlan.{machine_at}
 use Rattle.line_step.specs.Runs.{IsRun, Point, all_told, state_behind, IsShort}
 use Rattle.line_step.specs.Shown.{standings_told}
 use Rattle.line_step.specs.State.{LineState, marks_in, no_line}
 use Rattle.one_standing.specs.Carried.{Trace}
 use Rattle.one_standing.specs.Stands.{Stands}
 use Rattle.one_standing.specs.Waits.{AreWaiting}
-use Rattle.one_standing.specs.Standing.{HasOneStanding, IsFitLine}
+use Rattle.one_standing.specs.Standing.{HasOneStanding, IsFitLine, IsFitTrack}
 use Rattle.one_standing.proofs.ApartStep.{does_goes}
 use Rattle.one_standing.proofs.Carrying.{SaysAlone}
 use Rattle.one_standing.proofs.FactsOf.{facts_of}
 use Rattle.one_standing.proofs.LedgerMarks.{mark_at_machine}
 use Rattle.one_standing.proofs.LineForms.{ConnectsBear}
-use Rattle.one_standing.proofs.LineRun.{AreStood, Stood, line_stood, none_stood, run_stood, honest_front}
-use Rattle.line_step.proofs.Vouching.{lies_remembered}
+use Rattle.one_standing.proofs.LineRun.{AreStood, Stood, line_stood, none_stood, run_stood, honest_front, track_stood}
+use Rattle.line_step.proofs.Vouching.{none_lied}
 use Rattle.one_standing.proofs.OneStand.{one_standing_of}
 use Rattle.one_standing.proofs.RestMore.{counted_stands}
 use Rattle.supervisor_replay.specs.Along.{AgreesAlong}
@@ -66,12 +73,16 @@ use Rattle.handover_in.specs.declared.phase.Phase.{Phase as InPhase}
 use Rattle.node_core.specs.Own.{id_of}
 use Rattle.standings.specs.Marks.{is_held}
 use Rattle.supervisor_replay.specs.Replay.{has_left, Agrees, AreWatched, At, IsOnlyMark, IsWatched, KeepAgreeing, Nowhere, ReplayAgrees, Way, is_marked_at, told_of}
+use Rattle.one_standing.proofs.ApartFloor.{counted}
+use Rattle.supervisor_replay.proofs.Bodies.{holds_it, keeps_it, misses_it, takes_it, will_leave}
+use Rattle.supervisor_replay.proofs.DownForms.{free_beside}
+use Rattle.supervisor_replay.proofs.Views.{IsSame}
 use Rattle.supervisor_replay.proofs.Since.{left_since}
 use Rattle.supervisor_replay.proofs.Lines.{Agreed, still_agrees}
 use Rattle.supervisor_replay.proofs.Never.{Never, left_was, never_step}
 use Rattle.supervisor_replay.proofs.Running.{does_agree}
 use Rattle.supervisor_replay.proofs.Sights.{sole_of, view_of}
-use Rattle.supervisor_replay.proofs.Silent.{remarks_silent}
+use Rattle.supervisor_replay.proofs.Silent.{none_silent, remarks_silent}
 use Rattle.line_step.proofs.Remarks.{standings_remarks}
 
 -- ---- what the marks say
@@ -279,9 +290,61 @@ none_never id j = record {
   free = λ left. absurd (false≢true left);
 }
 
-run_agrees : (alone : SaysAlone) (s : LineState) (asked : List ScriptLine) (points : List Point)
+-- ---- a line of another track
+
+beside_seen : (id : ℕ) (s t : LineState) → IsBeside s t → IsSame (view_of id s) (view_of id t)
+beside_seen id s t is = record {
+  kept = λ i. ap (λ (l : Lane). keeps_it id l.body) (beside-lane s t i is);
+  held = λ i. ap (λ (l : Lane). holds_it id l.body) (beside-lane s t i is);
+  taken = λ i. ap (λ (l : Lane). takes_it id l.body) (beside-lane s t i is);
+  leaving = λ i. ap (λ (w : WorldParts). will_leave (machine_at w.floor i).unread) is.world;
+  missing = λ i.
+      ap (λ (l : Lane). misses_it l.body (machine_at t.world.floor i).unread) (beside-lane s t i is)
+      ∙ ap (λ (w : WorldParts). misses_it (node_at s i).lane.body (machine_at w.floor i).unread) is.world;
+  off = ap (λ (w : WorldParts). counted id (boards_on w.floor) == 0) is.world;
+}
+
+beside_agrees : (id : ℕ) (s t : LineState) (told past : List Happening) → IsBeside s t → told ≡ []
+    → Agreed id s past → Agreed id t (past ++ told)
+beside_agrees id s t told past is none was =
+    subst (λ (ts : List Happening). Agreed id t (past ++ ts)) (sym none)
+    (still_agrees id s t past [] none_silent (beside_seen id s t is)
+    (beside-old 1 s.machines t.machines is.machines) was)
+
+beside_never : (id j : ℕ) (s t : LineState) (told past : List Happening) → IsBeside s t → told ≡ []
+    → Never id j s past → Never id j t (past ++ told)
+beside_never id j s t told past is none was =
+    subst (λ (ts : List Happening). Never id j t (past ++ ts)) (sym none)
+    (subst (λ (ts : List Happening). Never id j t ts) (sym (append-nil past))
+    (record { still = was.still; free = λ left. free_beside s t is (was.free left) }))
+
+track_agrees : (alone : SaysAlone) (id number : ℕ) (line : TrackLine) (before after : LineState)
+    (told past : List Happening)
+    → Stood before → Stood after → after.lines ≤ 1000000 → tells_lie told ≡ false
+    → IsWatched before → IsWatched after
+    → TrackSteps number line before after told → Agreed id before past
+    → Agreed id after (past ++ told)
+track_agrees alone id number (own_line line) before after told past was now few honest watched watched2
+    steps agreed =
+    steps_agree alone id number line before after told past was now few honest watched watched2 steps agreed
+track_agrees alone id number other_line before after told past was now few honest watched watched2 steps
+    agreed =
+    beside_agrees id before after told past steps.0 steps.1 agreed
+
+track_never : SaysAlone
+    → (id j number : ℕ) (line : TrackLine) (before after : LineState) (told past : List Happening)
+    → number ≤ 1000000 → IsFitTrack line → Stood before → TrackSteps number line before after told
+    → Agreed id after (past ++ told) → Never id j before past → Never id j after (past ++ told)
+track_never alone id j number (own_line line) before after told past few fit was steps agreed never =
+    next_never alone id j number line before after told past few fit was steps agreed never
+track_never alone id j number other_line before after told past few fit was steps agreed never =
+    beside_never id j before after told past steps.0 steps.1 never
+
+-- ---- along a run
+
+run_agrees : (alone : SaysAlone) (s : LineState) (asked : List TrackLine) (points : List Point)
     (n : ℕ)
-    (past : List Happening) → AllByRecursion IsFitLine asked → IsShort s points
+    (past : List Happening) → AllByRecursion IsFitTrack asked → IsShort s points
     → Stood s
     → IsRun s asked points → AreStood (take n points) → has_lie (take n points) ≡ false
     → IsWatched s
@@ -302,11 +365,11 @@ run_agrees alone s (line ∷ asked) (point ∷ points)
     let rest : has_lie (take n points) ≡ false =
     (or_parts (tells_lie point.told) (has_lie (take n points)) honest).1 in
     let next : (id : ℕ) → Agreed id point.after (past ++ point.told) =
-    λ id. steps_agree alone id (s.lines + 1) line s point.after point.told past was all.0
+    λ id. track_agrees alone id (s.lines + 1) line s point.after point.told past was all.0
     (lines_few point.after all.0)
     first watched seen.0 run.0 (agreed id) in
     let later : (id j : ℕ) → Never id j point.after (past ++ point.told) =
-    λ id j. next_never alone id j
+    λ id j. track_never alone id j
     (s.lines + 1) line s point.after point.told past here fit.0 was run.0 (next id)
     (never id j) in (
       λ id. agrees_of all.0.trace id point.after (past ++ point.told) all.0.stands
@@ -325,9 +388,9 @@ replay_agrees alone connects asked points n fit few run honest watched =
 -- ---- the next line behind a run
 
 -- behind a whole run
-behind_run : (alone : SaysAlone) (s : LineState) (asked : List ScriptLine) (points : List Point)
+behind_run : (alone : SaysAlone) (s : LineState) (asked : List TrackLine) (points : List Point)
     (past : List Happening)
-    → ConnectsBear → AllByRecursion IsFitLine asked → IsShort s points → Stood s
+    → ConnectsBear → AllByRecursion IsFitTrack asked → IsShort s points → Stood s
     → IsRun s asked points
     → has_lie points ≡ false → IsWatched s → AreWatched points → ((id : ℕ) → Agreed id s past)
     → ((id j : ℕ) → Never id j s past)
@@ -357,15 +420,15 @@ behind_run alone s (line ∷ asked)
     let rest : has_lie points ≡ false = (or_parts (tells_lie point.told) (has_lie points) honest).1 in
     let here : s.lines + 1 ≤ 1000000 = few.0 in
     let stood : Stood point.after =
-    line_stood alone connects
+    track_stood alone connects
     (s.lines + 1) line s point.after point.told refl here fit.0 first was run.0 in
     let left : IsShort point.after points = few.1 in
     let next : (id : ℕ) → Agreed id point.after (past ++ point.told) =
-    λ id. steps_agree alone id (s.lines + 1) line s point.after point.told past was stood
+    λ id. track_agrees alone id (s.lines + 1) line s point.after point.told past was stood
     (lines_few point.after stood)
     first watched seen.0 run.0 (agreed id) in
     let once : (id j : ℕ) → Never id j point.after (past ++ point.told) =
-    λ id j. next_never alone id j
+    λ id j. track_never alone id j
     (s.lines + 1) line s point.after point.told past here fit.0 was run.0 (next id)
     (never id j) in
     let same = append_assoc past point.told (all_told points) in
@@ -388,13 +451,11 @@ behind_run alone s (line ∷ asked)
     )
 
 -- a run whose last line remembers no lie told none
-honest_run : (asked : List ScriptLine) (points : List Point) (s : LineState)
+honest_run : (asked : List TrackLine) (points : List Point) (s : LineState)
     → IsRun no_line asked points
     → state_behind no_line points ≡ s → s.unvouched ≡ None → has_lie points ≡ false
 honest_run asked points s run behind none =
-    sym (lies_remembered asked points run)
-    ∙ ap (λ (u : LineState). is_some u.unvouched) behind
-    ∙ ap (λ (o : Option ℕ). is_some o) none
+    none_lied asked points run (ap (λ (u : LineState). u.unvouched) behind ∙ none)
 
 lies_first : (points : List Point) (point : Point) → has_lie (points ++ point ∷ []) ≡ false
     → (has_lie points ≡ false) × (tells_lie point.told ≡ false)
@@ -411,7 +472,7 @@ lies_first (first ∷ points) point is =
 
 next_agrees : (alone : SaysAlone) → ConnectsBear
     → (line : ScriptLine) (after : LineState) (told : List Happening)
-    (asked : List ScriptLine) (points : List Point) → AllByRecursion IsFitLine asked
+    (asked : List TrackLine) (points : List Point) → AllByRecursion IsFitTrack asked
     → IsFitLine line
     → (state_behind no_line points).lines + 1 ≤ 1000000 → IsRun no_line asked points
     → LineSteps ((state_behind no_line points).lines + 1) line
@@ -421,10 +482,10 @@ next_agrees : (alone : SaysAlone) → ConnectsBear
 next_agrees alone connects line after told asked points fit fits few run steps none seen watched id
     =
     let point : Point = record { told = told; after = after } in
-    let whole : IsRun no_line (asked ++ line ∷ []) (points ++ point ∷ []) =
-    run_more no_line asked points line point run steps in
+    let whole : IsRun no_line (asked ++ own_line line ∷ []) (points ++ point ∷ []) =
+    run_more no_line asked points (own_line line) point run steps in
     let honest : has_lie (points ++ point ∷ []) ≡ false =
-    honest_run (asked ++ line ∷ []) (points ++ point ∷ []) after whole
+    honest_run (asked ++ own_line line ∷ []) (points ++ point ∷ []) after whole
     (behind_more no_line points point) none in
     let parts = lies_first points point honest in
     let within : IsShort no_line points = short-behind no_line asked points run few in

@@ -60,7 +60,7 @@ use Rattle.line_step.specs.Reasons.{is_empty, may_connect, may_do, may_flow}
 use Rattle.line_step.specs.Shown.{standings_told}
 use Rattle.line_step.specs.State.{LineState, one_more, with_world}
 use Rattle.line_step.specs.Steps.{MachineSteps, is_second, moment_of, read_by, unread_by}
-use Rattle.line_step.specs.World.{end_of, link_at, link_of, with_link}
+use Rattle.line_step.specs.World.{WorldParts, end_of, link_at, link_of, with_link}
 use Rattle.line_step.proofs.Connecting.{free_below}
 use Rattle.line_step.proofs.Keeps.{more_at}
 use Rattle.line_step.proofs.Numbers.{machine_within, same_or_not}
@@ -90,6 +90,8 @@ use Rattle.line_history.proofs.LinkFlow.{at_set, flow_over, flow_spoiled, flow_w
 use Rattle.supervisor_replay.proofs.LinkDown.{acts_down}
 use Rattle.supervisor_replay.proofs.Receiving.{Receives, step_receives, none_both}
 use Rattle.supervisor_replay.proofs.Sending.{step_offers_not}
+use Rattle.line_step.specs.Tracks.{IsBeside}
+use Rattle.line_step.proofs.Beside.{beside-lane}
 use Rattle.line_step.proofs.Remarks.{unvouched_remarks}
 use Rattle.line_step.proofs.Requests.{Request, request_of}
 use Rattle.line_step.proofs.Effects.{Effect, added_remarks, becomes_by, line_effect, spoil_remarks}
@@ -207,6 +209,15 @@ free_same {id} {k} s now machines link =
     free_by s now (ap ear_of (same_nodes s now machines (k + 1))) (λ on passes was.
     subst (λ (l : LinkParts). DownOn id passes (node_at s (k + 1)).lane.entry_bytes l)
     (sym link) was)
+
+-- behind a line of another track
+pub free_beside : {id k : ℕ} (s now : LineState) → IsBeside s now → IsFree id k s → IsFree id k now
+free_beside {id} {k} s now beside =
+    free_by s now
+    (ap (λ (l : Lane). record { intake = l.body.intake; session = l.body.entry.session; bytes = l.entry_bytes })
+    (beside-lane s now (k + 1) beside)) (λ on passes was.
+    subst (λ (w : WorldParts). DownOn id passes (node_at s (k + 1)).lane.entry_bytes (link_at k w))
+    (sym beside.world) was)
 
 set_free : (id k link : ℕ) (parts : LinkParts) (before : LineState)
     → (k ≡ link → is_open Entry (node_at before (k + 1)).lane.body ≡ true → (passes : Bool)

@@ -28,7 +28,6 @@ use Rattle.hermes_vertical.specs.declared.message.Passing.TheVariants.{
 }
 use Rattle.hermes_vertical.specs.declared.message.Vertical.{Vertical}
 use Rattle.hermes_vertical.specs.declared.message.Vertical.TheVariants as bodies
-use Rattle.line_script.specs.declared.line.ScriptLine.{ScriptLine}
 use Rattle.node_core.specs.declared.act.Act.TheVariants as acts
 use Rattle.node_core.specs.declared.act.Deed.TheVariants as deeds
 use Rattle.line_report.specs.declared.happening.Happening.{Happening}
@@ -38,10 +37,11 @@ use Rattle.standings.specs.declared.mark.Mark.{Mark}
 use Rattle.standings.specs.declared.mark.Mark.TheVariants.{Kept, Outlet, Intake}
 use Rattle.line_step.specs.Lies.{has_lie}
 use Rattle.line_step.specs.Numbered.{node_at}
+use Rattle.line_step.specs.Tracks.{TrackLine}
 use Rattle.line_step.specs.Runs.{IsRun, Point, IsShort}
 use Rattle.line_step.specs.State.{LineState, marks_in, no_line}
 use Rattle.one_standing.specs.Facts.{is_taken_at}
-use Rattle.one_standing.specs.Standing.{IsFitLine, is_held_at, is_kept_at}
+use Rattle.one_standing.specs.Standing.{IsFitTrack, is_held_at, is_kept_at}
 
 -- ---- what a supervisor folds from what it is told
 
@@ -160,6 +160,6 @@ KeepAgreeing past (point ∷ points) =
 -- script has at most 1,000,000 lines, and its barcodes are texts
 abbrev pub ReplayAgrees : Type 0
 ReplayAgrees =
-    (asked : List ScriptLine) (points : List Point) (n : ℕ) → AllByRecursion IsFitLine asked
+    (asked : List TrackLine) (points : List Point) (n : ℕ) → AllByRecursion IsFitTrack asked
     → IsShort no_line points → IsRun no_line asked points → has_lie (take n points) ≡ false
     → AreWatched (take n points) → KeepAgreeing [] (take n points)

@@ -32,7 +32,10 @@ use Rattle.node_core.specs.declared.lane.Body.{Body}
 use Rattle.node_core.specs.declared.lane.End.{End}
 use Rattle.node_core.proofs.Keeping.{at_intake_keeps}
 use Rattle.line_report.specs.declared.happening.Happening.{Happening}
-use Rattle.line_step.specs.Lines.{Connects}
+use Rattle.node_core.specs.declared.lane.Lane.{Lane}
+use Rattle.line_step.specs.Tracks.{IsBesideNode, TrackLine, TrackSteps, other_line, own_line}
+use Rattle.line_step.proofs.Beside.{beside-node}
+use Rattle.line_step.specs.Lines.{Connects, LineSteps}
 use Rattle.line_step.specs.Numbered.{Stand, node_at}
 use Rattle.line_step.specs.Runs.{IsRun, Point, state_behind}
 use Rattle.line_step.specs.State.{LineState, no_line, one_more, profile_of}
@@ -239,14 +242,24 @@ turns_heed number request s next told (turns.steps m input given may did) h = st
 turns_heed number request s next told (turns.connects m may did) h = twice_heeds number m s next told did h
 turns_heed number request s next told (turns.flows m side count may did) h = step_heeds number m _ _ next told did.steps (record { at = h.at })
 
-pub run_heeds : (asked : List ScriptLine) (points : List Point) (s : LineState) → HeedsAll s → IsRun s asked points → HeedsAll (state_behind s points)
+line_heeds : (number : ℕ) (line : ScriptLine) (s after : LineState) (told : List Happening) → LineSteps number line s after told → HeedsAll s → HeedsAll after
+line_heeds number line s after told steps h =
+    let next : HeedsAll steps.next = turns_heed number (request_of line) s steps.next steps.done (line_turns number line s steps.next steps.done steps.does) h in
+    subst (λ (x : LineState). HeedsAll x) (sym steps.after_is) (record { at = next.at })
+
+heeds_by : (node now : NodeState) → IsBesideNode node now → Heeds node.capacity node.lane.body → Heeds now.capacity now.lane.body
+heeds_by node now beside h =
+    subst (λ (n : ℕ). Heeds n now.lane.body) (sym beside.capacity) (subst (λ (l : Lane). Heeds node.capacity l.body) (sym beside.lane) h)
+
+track_heeds : (number : ℕ) (line : TrackLine) (s after : LineState) (told : List Happening) → TrackSteps number line s after told → HeedsAll s → HeedsAll after
+track_heeds number (own_line line) s after told steps h = line_heeds number line s after told steps h
+track_heeds number other_line s after told steps h = record { at = λ m. heeds_by (node_at s m) (node_at after m) (beside-node s after m steps.0) (h.at m) }
+
+pub run_heeds : (asked : List TrackLine) (points : List Point) (s : LineState) → HeedsAll s → IsRun s asked points → HeedsAll (state_behind s points)
 run_heeds [] [] s h run = h
 run_heeds [] (point ∷ points) s h run = absurd run
 run_heeds (line ∷ asked) [] s h run = absurd run
-run_heeds (line ∷ asked) (point ∷ points) s h run =
-    let steps = run.0 in
-    let next : HeedsAll steps.next = turns_heed (s.lines + 1) (request_of line) s steps.next steps.done (line_turns (s.lines + 1) line s steps.next steps.done steps.does) h in
-    run_heeds asked points point.after (subst (λ (x : LineState). HeedsAll x) (sym steps.after_is) (record { at = next.at })) run.1
+run_heeds (line ∷ asked) (point ∷ points) s h run = run_heeds asked points point.after (track_heeds (s.lines + 1) line s point.after point.told run.0 h) run.1
 
 none_at : (m : ℕ) → Heeds (node_at no_line m).capacity (node_at no_line m).lane.body
 none_at m = subst (λ (x : NodeState). Heeds x.capacity x.lane.body) (sym (node_none m)) (new_heeds false 1)

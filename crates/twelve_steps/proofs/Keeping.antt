@@ -1,5 +1,5 @@
 -- The machine below the gap keeps the record of the board that settles there.
-use Rattle.std.proofs.Common.{Bool, List, [], arith, eqb-true, false, length, refl, subst, sym, true, ℕ, ◌+◌, ◌==◌, ◌||◌, ◌∷◌, ◌≡◌, ◌≤◌}
+use Rattle.std.proofs.Common.{Bool, List, [], ap, eqb-true, false, refl, subst, sym, true, ℕ, ◌+◌, ◌==◌, ◌||◌, ◌∙◌, ◌∷◌, ◌≡◌, ◌≤◌}
 use Rattle.std.specs.List.{AllByRecursion}
 use Rattle.std.proofs.lemmas.Bool.{and_parts, or_parts}
 use Rattle.board_record.specs.declared.record.Record.{Record}
@@ -10,15 +10,16 @@ use Rattle.line_report.specs.declared.happening.Happening.TheVariants as happeni
 use Rattle.node_core.specs.declared.act.Act.{Act}
 use Rattle.node_core.specs.declared.act.Act.TheVariants as acts
 use Rattle.node_core.specs.declared.act.Deed.TheVariants as deeds
+use Rattle.line_step.specs.Tracks.{TrackLine, TrackSteps, asked_on, other_line, own_line}
 use Rattle.line_step.specs.Lies.{has_lie, tells_lie}
 use Rattle.line_step.specs.Lines.{LineSteps}
 use Rattle.line_step.specs.Numbered.{node_at}
 use Rattle.line_step.specs.Runs.{IsRun, Point, state_behind, IsShort}
 use Rattle.line_step.specs.State.{LineState}
-use Rattle.one_standing.specs.Standing.{IsFitLine}
+use Rattle.one_standing.specs.Standing.{IsFitTrack}
 use Rattle.one_standing.proofs.Carrying.{SaysAlone}
 use Rattle.one_standing.proofs.LineForms.{ConnectsBear}
-use Rattle.one_standing.proofs.LineRun.{Stood, line_stood}
+use Rattle.one_standing.proofs.LineRun.{Stood, track_stood}
 use Rattle.line_history.specs.Offered.{IsLast}
 use Rattle.line_history.proofs.Courses.{IsByHand}
 use Rattle.line_history.proofs.OfferedRun.{AreOffered, line_are_offered, line_keeps_last, still_among}
@@ -87,33 +88,38 @@ line_keeps {k = k} {board = board} {s = s} line point calm offered holds steps i
     let found = line_keeps_last (s.lines + 1) k board.id line s point.after point.told offered steps (no_hand calm) (told_among k board.id point.told [] is) in
     subst (λ (r : Record). IsLast r (node_at point.after (k + 1)).lane.body.kept) (holds found.0 found.2) found.3
 
+track_keeps : {k : ℕ} {board : Record} {s : LineState} (line : TrackLine) (point : Point) → IsUndisturbed k (asked_on line) → AreOffered s → HoldsIt k board s → TrackSteps (s.lines + 1) line s point.after point.told
+    → tells_settled k board.id point.told ≡ true → IsLast board (node_at point.after (k + 1)).lane.body.kept
+track_keeps (own_line line) point calm offered holds steps is = line_keeps line point calm offered holds steps is
+track_keeps {k = k} {board = board} other_line point calm offered holds steps is = absurd (let no : false ≡ true = sym (ap (λ (hs : List Happening). tells_settled k board.id hs) steps.1) ∙ is in cc)
+
 unless_next : (over : Bool) (Held Kept : Type 0) → (Held → Kept) → Unless over Held → Unless over Kept
 unless_next true Held Kept next held = tt
 unless_next false Held Kept next held = next held
 
-pub run_keeps : SaysAlone → ConnectsBear → (k : ℕ) (board : Record) (lines : List ScriptLine) (points : List Point) (settled : Bool) (s : LineState) → Stood s → AreOffered s → AllByRecursion IsFitLine lines → IsShort s points → IsRun s lines points → AreUndisturbed k lines → has_lie points ≡ false
+pub run_keeps : SaysAlone → ConnectsBear → (k : ℕ) (board : Record) (lines : List TrackLine) (points : List Point) (settled : Bool) (s : LineState) → Stood s → AreOffered s → AllByRecursion IsFitTrack lines → IsShort s points → IsRun s lines points → AreUndisturbed k lines → has_lie points ≡ false
     → HoldsItToEnd k board settled s points → KeepsItToEnd k board settled points
 run_keeps alone connects k board lines [] settled s stood offered fit few run calm honest holds = tt
 run_keeps alone connects k board [] (point ∷ points) settled s stood offered fit few run calm honest holds = absurd run
 run_keeps alone connects k board (line ∷ lines) (point ∷ points) settled s stood offered fit few run (more calm others) honest holds =
     let here : s.lines + 1 ≤ 1000000 = few.0 in
     let first : tells_lie point.told ≡ false = (or_parts (tells_lie point.told) (has_lie points) honest).0 in
-    let after : Stood point.after = line_stood alone connects (s.lines + 1) line s point.after point.told refl here fit.0 first stood run.0 in
+    let after : Stood point.after = track_stood alone connects (s.lines + 1) line s point.after point.told refl here fit.0 first stood run.0 in
     let behind : IsShort point.after points = few.1 in
     let now : Bool = settled || tells_settled k board.id point.told in (
-      line_keeps line point calm offered holds.0 run.0,
+      track_keeps line point calm offered holds.0 run.0,
       unless_next (has_ended k now point.after) (HoldsItToEnd k board now point.after points) (KeepsItToEnd k board now points)
           (λ later. run_keeps alone connects k board lines points now point.after after (line_are_offered (s.lines + 1) line s point.after point.told stood after run.0 offered) fit.1 behind run.1 others (or_parts (tells_lie point.told) (has_lie points) honest).1 later) holds.1,
     )
 
 -- what is offered, along the script before
-pub behind_offered : SaysAlone → ConnectsBear → (asked : List ScriptLine) (points : List Point) (s : LineState) → Stood s → AreOffered s → AllByRecursion IsFitLine asked → IsShort s points → IsRun s asked points → has_lie points ≡ false → AreOffered (state_behind s points)
+pub behind_offered : SaysAlone → ConnectsBear → (asked : List TrackLine) (points : List Point) (s : LineState) → Stood s → AreOffered s → AllByRecursion IsFitTrack asked → IsShort s points → IsRun s asked points → has_lie points ≡ false → AreOffered (state_behind s points)
 behind_offered alone connects [] [] s stood offered fit few run honest = offered
 behind_offered alone connects [] (point ∷ points) s stood offered fit few run honest = absurd run
 behind_offered alone connects (line ∷ asked) [] s stood offered fit few run honest = absurd run
 behind_offered alone connects (line ∷ asked) (point ∷ points) s stood offered fit few run honest =
     let here : s.lines + 1 ≤ 1000000 = few.0 in
     let first : tells_lie point.told ≡ false = (or_parts (tells_lie point.told) (has_lie points) honest).0 in
-    let after : Stood point.after = line_stood alone connects (s.lines + 1) line s point.after point.told refl here fit.0 first stood run.0 in
+    let after : Stood point.after = track_stood alone connects (s.lines + 1) line s point.after point.told refl here fit.0 first stood run.0 in
     let behind : IsShort point.after points = few.1 in
     behind_offered alone connects asked points point.after after (line_are_offered (s.lines + 1) line s point.after point.told stood after run.0 offered) fit.1 behind run.1 (or_parts (tells_lie point.told) (has_lie points) honest).1

@@ -1,6 +1,6 @@
 -- The stage along an undisturbed stretch.
 use Rattle.std.proofs.Common.{Bool, List, Some, [], ap, arith, false, length, refl, subst, sym, true, ℕ, ◌&&◌, ◌+◌, ◌∙◌, ◌∷◌, ◌≡◌, ◌≤◌, ◌||◌, if◌then◌else◌}
-use Rattle.std.specs.Prelude.{not}
+use Rattle.std.specs.Prelude.{nat_le, nat_lt, not}
 use Rattle.std.specs.List.{AllByRecursion}
 use Rattle.std.proofs.lemmas.Bool.{or_parts, and_from}
 use Rattle.board_record.specs.declared.record.Record.{Record}
@@ -9,6 +9,10 @@ use Rattle.handover_in.specs.State.{board_of_phase}
 use Rattle.handover_in.specs.declared.phase.Phase.{Phase as In}
 use Rattle.line_script.specs.declared.line.ScriptLine.{ScriptLine}
 use Rattle.line_report.specs.declared.happening.Happening.{Happening}
+use Rattle.node_core.specs.declared.lane.Lane.{Lane}
+use Rattle.line_step.specs.Tracks.{IsBeside, IsBesideNode, TrackLine, TrackSteps, asked_on, other_line, own_line}
+use Rattle.line_step.specs.World.{WorldParts, link_at}
+use Rattle.line_step.proofs.Beside.{beside-length, beside-node}
 use Rattle.line_step.specs.Lies.{has_lie, tells_lie}
 use Rattle.line_step.specs.Lines.{LineSteps}
 use Rattle.line_step.specs.Numbered.{node_at}
@@ -16,10 +20,10 @@ use Rattle.line_step.specs.Runs.{IsRun, Point, IsShort}
 use Rattle.line_step.specs.Shown.{standings_told}
 use Rattle.line_step.specs.State.{LineState}
 use Rattle.line_step.proofs.Keeps.{lines_stay}
-use Rattle.one_standing.specs.Standing.{IsFitLine}
+use Rattle.one_standing.specs.Standing.{IsFitTrack}
 use Rattle.one_standing.proofs.Carrying.{SaysAlone}
 use Rattle.one_standing.proofs.LineForms.{ConnectsBear}
-use Rattle.one_standing.proofs.LineRun.{Stood, line_stood}
+use Rattle.one_standing.proofs.LineRun.{Stood, track_stood}
 use Rattle.one_standing.proofs.RestMore.{counted_stands}
 use Rattle.twelve_steps.specs.Twelve.{CanGoOnToEnd, HoldsIt, HoldsItToEnd, Unless, has_ended, one_if, steps_to_end, tells_settled}
 use Rattle.twelve_steps.specs.Undisturbed.{AreUndisturbed, CanGoOn, IsUndisturbed, is_link_step, is_of_link, more, tells_no}
@@ -28,7 +32,9 @@ use Rattle.twelve_steps.proofs.EachLine.{each_line}
 use Rattle.twelve_steps.proofs.Flowing.{Outcome, comes_to_end, goes_forth, outcome_less}
 use Rattle.twelve_steps.proofs.Going.{Stage}
 use Rattle.twelve_steps.proofs.Lines.{Goes, Had, no_append, outcome_later, settled_append}
-use Rattle.twelve_steps.proofs.Lower.{Lower, asked, phase_of, readies, settled, stopped, takes}
+use Rattle.twelve_steps.proofs.Lower.{IsLower, Lower, asked, phase_of, readies, settled, stopped, takes}
+use Rattle.twelve_steps.proofs.Texts.{Carrying}
+use Rattle.twelve_steps.proofs.Upper.{IsUpper}
 use Rattle.twelve_steps.proofs.Possible.{can_go_on}
 
 -- ---- a line, counted and with the standings that it changed
@@ -71,6 +77,58 @@ one_line {k = k} {id = id} {left = left} {told = told} {s = s} {after = after} {
     let less = outcome_less (one_if (is_link_step k s line what)) (fewer_step (is_of_link k s line) (tells_no steps.done) (tells_no what) (λ is. ap (λ (hs : List Happening). tells_no hs) steps.told_is ∙ no_append steps.done (standings_told s next) is)) first in
     subst (λ (x : LineState). Outcome k id left (one_if (is_link_step k s line what)) (told || tells_settled k id.id what) x) (sym steps.after_is) (counted_outcome next steps.lines less)
 
+-- what was told stays told
+told_still : (told now : Bool) → told ≡ true → (told || now) ≡ true
+told_still true now is = refl
+told_still false now is = absurd (let no : false ≡ true = is in cc)
+
+-- a line of another track leaves the stage
+abbrev aside : LineState → LineState → LineState
+aside s next = record next { world = s.world }
+
+stage_still : {k : ℕ} {id : Record} {left : ℕ} {told told_now : Bool} {s : LineState} (next : LineState) → IsBeside s (aside s next) → (told ≡ true → told_now ≡ true) → Stage k id left told s → Stage k id left told_now (aside s next)
+stage_still {k = k} {s = s} next beside later st =
+    let now : LineState = aside s next in
+    let above : IsBesideNode (node_at s k) (node_at now k) = beside-node s now k beside in
+    let below : IsBesideNode (node_at s (k + 1)) (node_at now (k + 1)) = beside-node s now (k + 1) beside in
+    record {
+      a = st.a;
+      b = st.b;
+      named = st.named;
+      taken = st.taken;
+      same = st.same;
+      short = st.short;
+      w = st.w;
+      u = st.u;
+      l = st.l;
+      up_seen = st.up_seen;
+      down_seen = st.down_seen;
+      up = st.up;
+      down = st.down;
+      linked = ap (λ (n : ℕ). nat_le 1 k && nat_lt k n) (beside-length s.machines now.machines beside.machines) ∙ st.linked;
+      upper = subst (λ (lane : Lane). IsUpper st.a st.u lane.body) (sym above.lane) st.upper;
+      lower = subst (λ (n : ℕ). IsLower n st.b st.l (node_at now (k + 1)).lane.body) (sym below.capacity) (subst (λ (lane : Lane). IsLower (node_at s (k + 1)).capacity st.b st.l lane.body) (sym below.lane) st.lower);
+      up_unread = st.up_unread;
+      down_unread = st.down_unread;
+      link = subst (λ (lane : Lane). Carrying lane.exit_bytes (node_at now (k + 1)).lane.entry_bytes (link_at k s.world) st.up st.down) (sym above.lane)
+          (subst (λ (lane : Lane). Carrying (node_at s k).lane.exit_bytes lane.entry_bytes (link_at k s.world) st.up st.down) (sym below.lane) st.link);
+      gap = st.gap;
+      joint = st.joint;
+      few = st.few;
+      settles = λ is. later (st.settles is);
+    }
+
+stage_beside : {k : ℕ} {id : Record} {left : ℕ} {told told_now : Bool} {s next : LineState} → IsBeside s next → (told ≡ true → told_now ≡ true) → Stage k id left told s → Stage k id left told_now next
+stage_beside {k = k} {id = id} {left = left} {told_now = told_now} {s = s} {next = next} beside later st =
+    let still : IsBeside s (aside s next) = record { machines = beside.machines; world = refl; counts = beside.counts; vouched = beside.vouched } in
+    subst (λ (w : WorldParts). Stage k id left told_now (record next { world = w })) (sym beside.world) (stage_still next still later st)
+
+pub track_line : {k : ℕ} {id : Record} {left : ℕ} {told : Bool} {s after : LineState} → SaysAlone → (what : List Happening) (line : TrackLine) → IsUndisturbed k (asked_on line) → s.lines + 1 ≤ 1000000 → Stage k id left told s → Stood s → Stood after → TrackSteps (s.lines + 1) line s after what
+    → Outcome k id left (one_if (is_link_step k s (asked_on line) what)) (told || tells_settled k id.id what) after
+track_line alone what (own_line line) calm few st stood after_stood steps = one_line alone line calm few st stood after_stood steps
+track_line {k = k} {id = id} {left = left} {told = told} alone what other_line calm few st stood after_stood steps =
+    goes_forth (record { now = left; fewer = omega arith; stage = stage_beside steps.0 (told_still told (tells_settled k id.id what)) st })
+
 -- ---- the stretch
 
 -- the steps of one line, and of those behind it unless it was the last
@@ -96,19 +154,19 @@ holds_it : {k : ℕ} {id : Record} {left : ℕ} {told : Bool} {s : LineState} �
 holds_it st = λ r is. held_by r st.b st.l (sym (ap (λ (p : In). board_of_phase p) st.lower.phase) ∙ is) ∙ st.taken
 
 -- so many link steps at most, and one can be done until the end; and what the intake holds until then is that record
-pub record Ends (most k : ℕ) (id : Record) (told : Bool) (s : LineState) (lines : List ScriptLine) (points : List Point) : Type 0 where
+pub record Ends (most k : ℕ) (id : Record) (told : Bool) (s : LineState) (lines : List TrackLine) (points : List Point) : Type 0 where
   pub few : steps_to_end k id.id told s lines points ≤ most
   pub possible : CanGoOnToEnd k id.id told s points
   pub holds : HoldsItToEnd k id told s points
 
-by_outcome : {k : ℕ} {id : Record} {left : ℕ} {told : Bool} {s : LineState} (line : ScriptLine) (lines : List ScriptLine) (point : Point) (points : List Point) → CanGoOn k s → HoldsIt k id s → Outcome k id left (one_if (is_link_step k s line point.told)) (told || tells_settled k id.id point.told) point.after
+by_outcome : {k : ℕ} {id : Record} {left : ℕ} {told : Bool} {s : LineState} (line : TrackLine) (lines : List TrackLine) (point : Point) (points : List Point) → CanGoOn k s → HoldsIt k id s → Outcome k id left (one_if (is_link_step k s (asked_on line) point.told)) (told || tells_settled k id.id point.told) point.after
     → ((now : ℕ) → Stage k id now (told || tells_settled k id.id point.told) point.after → Ends now k id (told || tells_settled k id.id point.told) point.after lines points) → Ends left k id told s (line ∷ lines) (point ∷ points)
 by_outcome {k = k} {id = id} {left = left} {told = told} {s = s} line lines point points can holds (goes_forth f) later =
     let told_now = told || tells_settled k id.id point.told in
     let over = has_ended k told_now point.after in
     let rest = later f.now f.stage in
     record {
-      few = total over (one_if (is_link_step k s line point.told)) (steps_to_end k id.id told_now point.after lines points) f.now left (λ _. rest.few) f.fewer;
+      few = total over (one_if (is_link_step k s (asked_on line) point.told)) (steps_to_end k id.id told_now point.after lines points) f.now left (λ _. rest.few) f.fewer;
       possible = (can, all_of over (CanGoOnToEnd k id.id told_now point.after points) (λ _. rest.possible));
       holds = (holds, all_of over (HoldsItToEnd k id told_now point.after points) (λ _. rest.holds));
     }
@@ -117,19 +175,19 @@ by_outcome {k = k} {id = id} {left = left} {told = told} {s = s} line lines poin
     let over : has_ended k told_now point.after ≡ true = and_from told_now (is_idle_phase (node_at point.after k).lane.body.outlet.phase) e.told_is e.idle in
     let fewer = e.fewer in
     record {
-      few = total (has_ended k told_now point.after) (one_if (is_link_step k s line point.told)) (steps_to_end k id.id told_now point.after lines points) 0 left (λ off. absurd (let no : true ≡ false = sym over ∙ off in cc)) (omega (arith, fewer));
+      few = total (has_ended k told_now point.after) (one_if (is_link_step k s (asked_on line) point.told)) (steps_to_end k id.id told_now point.after lines points) 0 left (λ off. absurd (let no : true ≡ false = sym over ∙ off in cc)) (omega (arith, fewer));
       possible = (can, all_of (has_ended k told_now point.after) (CanGoOnToEnd k id.id told_now point.after points) (λ off. absurd (let no : true ≡ false = sym over ∙ off in cc)));
       holds = (holds, all_of (has_ended k told_now point.after) (HoldsItToEnd k id told_now point.after points) (λ off. absurd (let no : true ≡ false = sym over ∙ off in cc)));
     }
 
-pub run_ends : {k : ℕ} {id : Record} → SaysAlone → ConnectsBear → (lines : List ScriptLine) (points : List Point) (left : ℕ) (told : Bool) (s : LineState) → Stage k id left told s → Stood s → AllByRecursion IsFitLine lines → IsShort s points → IsRun s lines points → AreUndisturbed k lines → has_lie points ≡ false → Ends left k id told s lines points
+pub run_ends : {k : ℕ} {id : Record} → SaysAlone → ConnectsBear → (lines : List TrackLine) (points : List Point) (left : ℕ) (told : Bool) (s : LineState) → Stage k id left told s → Stood s → AllByRecursion IsFitTrack lines → IsShort s points → IsRun s lines points → AreUndisturbed k lines → has_lie points ≡ false → Ends left k id told s lines points
 run_ends alone connects [] [] left told s st stood fit few run calm honest = record { few = omega arith; possible = can_go_on st stood; holds = holds_it st }
 run_ends alone connects [] (point ∷ points) left told s st stood fit few run calm honest = absurd run
 run_ends alone connects (line ∷ lines) [] left told s st stood fit few run calm honest = absurd run
 run_ends {k = k} {id = id} alone connects (line ∷ lines) (point ∷ points) left told s st stood fit few run (more one others) honest =
     let here : s.lines + 1 ≤ 1000000 = few.0 in
     let first : tells_lie point.told ≡ false = (or_parts (tells_lie point.told) (has_lie points) honest).0 in
-    let after : Stood point.after = line_stood alone connects (s.lines + 1) line s point.after point.told refl here fit.0 first stood run.0 in
+    let after : Stood point.after = track_stood alone connects (s.lines + 1) line s point.after point.told refl here fit.0 first stood run.0 in
     let behind : IsShort point.after points = few.1 in
-    by_outcome line lines point points (can_go_on st stood) (holds_it st) (one_line alone line one here st stood after run.0)
+    by_outcome line lines point points (can_go_on st stood) (holds_it st) (track_line alone point.told line one here st stood after run.0)
     (λ now stage. run_ends alone connects lines points now (told || tells_settled k id.id point.told) point.after stage after fit.1 behind run.1 others (or_parts (tells_lie point.told) (has_lie points) honest).1)

@@ -21,7 +21,7 @@ use Rattle.handover_in.specs.declared.phase.Phase.TheVariants as inn
 use Rattle.line_link.specs.Flow.{Stream, coming}
 use Rattle.line_link.specs.Link.{LinkParts}
 use Rattle.line_link.specs.Texts.{bytes_of}
-use Rattle.line_script.specs.declared.line.ScriptLine.{ScriptLine}
+use Rattle.line_step.specs.Tracks.{TrackLine}
 use Rattle.line_world.specs.FloorPlan.{gap_at, free_gap}
 use Rattle.line_world.specs.declared.gap.AtGap.{AtGap}
 use Rattle.custody.specs.Bytes.{Flows, Spoiled, texts_of}
@@ -49,10 +49,10 @@ use Rattle.line_step.specs.World.{link_at}
 use Rattle.one_standing.specs.Places.{at_machine, lies_at}
 use Rattle.one_standing.specs.Relation.{Owns}
 use Rattle.one_standing.specs.Carried.{Carries, between_of, stand_of, carries_over, carries_spoiled, carries_whole}
-use Rattle.one_standing.specs.Standing.{IsFitLine}
+use Rattle.one_standing.specs.Standing.{IsFitTrack}
 use Rattle.one_standing.proofs.Carrying.{SaysAlone}
 use Rattle.one_standing.proofs.LineForms.{ConnectsBear}
-use Rattle.one_standing.proofs.LineRun.{Stood, line_stood, none_stood}
+use Rattle.one_standing.proofs.LineRun.{Stood, track_stood, none_stood}
 use Rattle.one_standing.proofs.RestMore.{no_link_at}
 use Rattle.line_history.proofs.OfferedRun.{none_are_offered}
 use Rattle.twelve_steps.specs.Announced.{AreInFlight, AreTextsOf, IsAnnounced, IsTextOf, heard, in_flight, more_texts, no_texts}
@@ -249,18 +249,18 @@ announced_stage {k = k} {id = id} {s = s} alone stood heeds is =
 
 -- ---- along the script
 
-behind_stood : SaysAlone → ConnectsBear → (asked : List ScriptLine) (points : List Point) (s : LineState) → Stood s → AllByRecursion IsFitLine asked → IsShort s points → IsRun s asked points → has_lie points ≡ false → Stood (state_behind s points)
+behind_stood : SaysAlone → ConnectsBear → (asked : List TrackLine) (points : List Point) (s : LineState) → Stood s → AllByRecursion IsFitTrack asked → IsShort s points → IsRun s asked points → has_lie points ≡ false → Stood (state_behind s points)
 behind_stood alone connects [] [] s stood fit few run honest = stood
 behind_stood alone connects [] (point ∷ points) s stood fit few run honest = absurd run
 behind_stood alone connects (line ∷ asked) [] s stood fit few run honest = absurd run
 behind_stood alone connects (line ∷ asked) (point ∷ points) s stood fit few run honest =
     let here : s.lines + 1 ≤ 1000000 = few.0 in
     let first : tells_lie point.told ≡ false = (or_parts (tells_lie point.told) (has_lie points) honest).0 in
-    let after : Stood point.after = line_stood alone connects (s.lines + 1) line s point.after point.told refl here fit.0 first stood run.0 in
+    let after : Stood point.after = track_stood alone connects (s.lines + 1) line s point.after point.told refl here fit.0 first stood run.0 in
     let behind : IsShort point.after points = few.1 in
     behind_stood alone connects asked points point.after after fit.1 behind run.1 (or_parts (tells_lie point.told) (has_lie points) honest).1
 
-fit_front : (asked stretch : List ScriptLine) → AllByRecursion IsFitLine (asked ++ stretch) → AllByRecursion IsFitLine asked × AllByRecursion IsFitLine stretch
+fit_front : (asked stretch : List TrackLine) → AllByRecursion IsFitTrack (asked ++ stretch) → AllByRecursion IsFitTrack asked × AllByRecursion IsFitTrack stretch
 fit_front [] stretch fit = (tt, fit)
 fit_front (line ∷ asked) stretch fit =
     let others = fit_front asked stretch fit.1 in

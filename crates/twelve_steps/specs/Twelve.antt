@@ -12,14 +12,14 @@ use Rattle.handover_out.specs.State.{is_idle_phase}
 use Rattle.handover_in.specs.State.{held}
 use Rattle.line_report.specs.declared.happening.Happening.{Happening}
 use Rattle.line_report.specs.declared.happening.Happening.TheVariants as happenings
-use Rattle.line_script.specs.declared.line.ScriptLine.{ScriptLine}
 use Rattle.node_core.specs.declared.act.Act.TheVariants as acts
 use Rattle.node_core.specs.declared.act.Deed.TheVariants as deeds
 use Rattle.line_step.specs.Lies.{has_lie}
 use Rattle.line_step.specs.Numbered.{node_at}
+use Rattle.line_step.specs.Tracks.{TrackLine, asked_on}
 use Rattle.line_step.specs.Runs.{IsRun, Point, state_behind, IsShort}
 use Rattle.line_step.specs.State.{LineState, no_line}
-use Rattle.one_standing.specs.Standing.{IsFitLine}
+use Rattle.one_standing.specs.Standing.{IsFitTrack}
 use Rattle.line_history.specs.Offered.{IsLast}
 use Rattle.twelve_steps.specs.Announced.{IsAnnounced}
 use Rattle.twelve_steps.specs.Undisturbed.{AreUndisturbed, CanGoOn, is_link_step}
@@ -49,11 +49,11 @@ one_if false = 0
 
 -- how many link steps happen from this state on, up to the line that ends the handover. The flag:
 -- it was told before that the board has settled
-abbrev pub steps_to_end : ℕ → ℕ → Bool → LineState → List ScriptLine → List Point → ℕ
+abbrev pub steps_to_end : ℕ → ℕ → Bool → LineState → List TrackLine → List Point → ℕ
 steps_to_end k id settled s [] points = 0
 steps_to_end k id settled s (line ∷ lines) [] = 0
 steps_to_end k id settled s (line ∷ lines) (point ∷ points) =
-    one_if (is_link_step k s line point.told) +
+    one_if (is_link_step k s (asked_on line) point.told) +
     (if has_ended k (settled
     || tells_settled k id point.told) point.after then 0 else steps_to_end k id (settled
     || tells_settled k id point.told) point.after lines points)
@@ -97,7 +97,7 @@ KeepsItToEnd k board settled (point ∷ points) =
 
 -- ---- the law
 
-pub record EndsWithin (most k id : ℕ) (s : LineState) (lines : List ScriptLine)
+pub record EndsWithin (most k id : ℕ) (s : LineState) (lines : List TrackLine)
     (points : List Point) : Type 0 where
   pub few : steps_to_end k id false s lines points ≤ most
   pub possible : CanGoOnToEnd k id false s points
@@ -111,8 +111,8 @@ pub record EndsWithin (most k id : ℕ) (s : LineState) (lines : List ScriptLine
 -- 1,000,000 lines, and its barcodes are texts
 abbrev pub EndsWithinTwelveSteps : Type 0
 EndsWithinTwelveSteps =
-    (asked stretch : List ScriptLine) (earlier points : List Point) (k id : ℕ)
-    → AllByRecursion IsFitLine (asked ++ stretch) → IsShort no_line earlier
+    (asked stretch : List TrackLine) (earlier points : List Point) (k id : ℕ)
+    → AllByRecursion IsFitTrack (asked ++ stretch) → IsShort no_line earlier
     → IsShort (state_behind no_line earlier) points
     → IsRun no_line asked earlier → has_lie earlier ≡ false
     → IsRun (state_behind no_line earlier) stretch points → AreUndisturbed k stretch

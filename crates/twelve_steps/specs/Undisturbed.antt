@@ -10,6 +10,7 @@ use Rattle.line_world.specs.declared.moves.Move.TheVariants as moves
 use Rattle.custody.specs.Words.{events_at}
 use Rattle.line_report.specs.declared.happening.Happening.{Happening}
 use Rattle.line_report.specs.declared.happening.Happening.TheVariants as happenings
+use Rattle.line_step.specs.Tracks.{TrackLine, asked_on}
 use Rattle.line_step.specs.Reasons.{may_do, may_flow, may_sense}
 use Rattle.line_step.specs.State.{LineState}
 
@@ -129,7 +130,8 @@ pub data IsUndisturbed (k : ℕ) : ScriptLine → Type 0 where
   spoils_below : IsUndisturbed k (lines.Spoil (k + 1) Exit)
   connects_above : IsUndisturbed k (lines.Connect k)
 
-pub data AreUndisturbed (k : ℕ) : List ScriptLine → Type 0 where
+-- along a stretch; a line of another track disturbs nothing
+pub data AreUndisturbed (k : ℕ) : List TrackLine → Type 0 where
   none : AreUndisturbed k []
-  more : {line : ScriptLine} {others : List ScriptLine} → IsUndisturbed k line
+  more : {line : TrackLine} {others : List TrackLine} → IsUndisturbed k (asked_on line)
       → AreUndisturbed k others → AreUndisturbed k (line ∷ others)

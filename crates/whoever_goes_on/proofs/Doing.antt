@@ -9,6 +9,7 @@ use Rattle.line_script.specs.declared.line.ScriptLine.TheVariants as lines
 use Rattle.line_step.specs.Lies.{has_lie, tells_lie}
 use Rattle.line_step.specs.Lines.{Becomes, Flows, LineDoes, LineSteps, Unless, arrived, move_told, moved}
 use Rattle.line_step.specs.Reasons.{May, may_do, may_flow, may_sense}
+use Rattle.line_step.specs.Tracks.{TrackLine, TrackSteps, asked_on, other_line, own_line}
 use Rattle.line_step.specs.Runs.{IsRun, Point}
 use Rattle.line_step.specs.Shown.{standings_told}
 use Rattle.line_step.specs.State.{LineState}
@@ -20,7 +21,7 @@ use Rattle.line_world.specs.declared.moves.Move.TheVariants as moves
 use Rattle.line_world.specs.declared.moves.MoveNo.{MoveNo}
 use Rattle.node_core.specs.declared.input.Input.{Input}
 use Rattle.node_core.specs.declared.input.Input.TheVariants as inputs
-use Rattle.one_standing.specs.Standing.{IsFitLine}
+use Rattle.one_standing.specs.Standing.{IsFitLine, IsFitTrack}
 use Rattle.twelve_steps.specs.Undisturbed.{AreUndisturbed, IsPossible, IsUndisturbed, begins, enters, flows_down, flows_up, is_link_step, is_of_link, leaves, more, none, senses, tells_no}
 use Rattle.whoever_goes_on.specs.Play.{AreEnabled}
 use Rattle.whoever_goes_on.proofs.Told.{AreDone, IsCalm, acts_done, done_calm, done_join, neither, standings_done}
@@ -73,27 +74,32 @@ fit_line k s _ is = tt
 
 -- ---- a play
 
-pub play_fit : (k : ℕ) (s : LineState) (asked : List ScriptLine) (points : List Point) → AreEnabled k s asked points → AllByRecursion IsFitLine asked
+-- a line of another track is no link step
+track_calm : (number : ℕ) (line : TrackLine) (s after : LineState) (told : List Happening) → IsPossible s (asked_on line) → TrackSteps number line s after told → IsCalm told
+track_calm number (own_line line) s after told can steps = step_calm number line s after told can steps
+track_calm number other_line s after told can steps = absurd can
+
+pub play_fit : (k : ℕ) (s : LineState) (asked : List TrackLine) (points : List Point) → AreEnabled k s asked points → AllByRecursion IsFitTrack asked
 play_fit k s [] points enabled = tt
 play_fit k s (line ∷ asked) [] enabled = absurd enabled
-play_fit k s (line ∷ asked) (point ∷ points) enabled = (fit_line k s line enabled.0, play_fit k point.after asked points enabled.2)
+play_fit k s (line ∷ asked) (point ∷ points) enabled = (fit_line k s (asked_on line) enabled.0, play_fit k point.after asked points enabled.2)
 
-pub play_calm : (k : ℕ) (s : LineState) (asked : List ScriptLine) (points : List Point) → AreEnabled k s asked points → AreUndisturbed k asked
+pub play_calm : (k : ℕ) (s : LineState) (asked : List TrackLine) (points : List Point) → AreEnabled k s asked points → AreUndisturbed k asked
 play_calm k s [] points enabled = none
 play_calm k s (line ∷ asked) [] enabled = absurd enabled
-play_calm k s (line ∷ asked) (point ∷ points) enabled = more (calm_line k s line enabled.0) (play_calm k point.after asked points enabled.2)
+play_calm k s (line ∷ asked) (point ∷ points) enabled = more (calm_line k s (asked_on line) enabled.0) (play_calm k point.after asked points enabled.2)
 
-pub play_honest : (k : ℕ) (s : LineState) (asked : List ScriptLine) (points : List Point) → IsRun s asked points → AreEnabled k s asked points → has_lie points ≡ false
+pub play_honest : (k : ℕ) (s : LineState) (asked : List TrackLine) (points : List Point) → IsRun s asked points → AreEnabled k s asked points → has_lie points ≡ false
 play_honest k s [] [] run enabled = refl
 play_honest k s [] (point ∷ points) run enabled = absurd run
 play_honest k s (line ∷ asked) [] run enabled = absurd run
 play_honest k s (line ∷ asked) (point ∷ points) run enabled =
-    neither (tells_lie point.told) (has_lie points) (step_calm (s.lines + 1) line s point.after point.told enabled.1 run.0).lie (play_honest k point.after asked points run.1 enabled.2)
+    neither (tells_lie point.told) (has_lie points) (track_calm (s.lines + 1) line s point.after point.told enabled.1 run.0).lie (play_honest k point.after asked points run.1 enabled.2)
 
 step_by : (of_link refuses : Bool) → of_link ≡ true → refuses ≡ false → (of_link && not refuses) ≡ true
 step_by true false is calm = refl
 step_by true true is calm = absurd cc
 step_by false refuses is calm = absurd cc
 
-pub step_is : (k number : ℕ) (line : ScriptLine) (s after : LineState) (told : List Happening) → is_of_link k s line ≡ true → IsPossible s line → LineSteps number line s after told → is_link_step k s line told ≡ true
-step_is k number line s after told is can steps = step_by (is_of_link k s line) (tells_no told) is (step_calm number line s after told can steps).no
+pub step_is : (k number : ℕ) (line : TrackLine) (s after : LineState) (told : List Happening) → is_of_link k s (asked_on line) ≡ true → IsPossible s (asked_on line) → TrackSteps number line s after told → is_link_step k s (asked_on line) told ≡ true
+step_is k number line s after told is can steps = step_by (is_of_link k s (asked_on line)) (tells_no told) is (track_calm number line s after told can steps).no

@@ -3,14 +3,14 @@ use Rattle.std.proofs.Common.{◌≡◌, ◌+◌, ◌≤◌, ◌<◌, ◌++◌, 
 use Rattle.std.specs.List.{AllByRecursion}
 use Rattle.std.specs.Prelude.{if◌then◌else◌}
 use Rattle.std.proofs.lemmas.List.{length-take-le}
-use Rattle.line_script.specs.declared.line.ScriptLine.{ScriptLine}
+use Rattle.line_step.specs.Tracks.{TrackLine, asked_on, own_line}
 use Rattle.line_step.specs.Runs.{IsRun, Point, state_behind}
 use Rattle.line_step.proofs.Running.{run-short}
 use Rattle.line_step.specs.State.{LineState, no_line}
 use Rattle.line_step.proofs.Numbers.{beyond_or_not}
 use Rattle.line_step.proofs.Running.{run-append}
 use Rattle.one_report.proofs.Lines.{each_line}
-use Rattle.one_standing.specs.Standing.{IsFitLine}
+use Rattle.one_standing.specs.Standing.{IsFitTrack}
 use Rattle.twelve_steps.specs.Twelve.{CanGoOnToEnd, EndsWithin, EndsWithinTwelveSteps, Unless, has_ended, one_if, steps_to_end, tells_settled}
 use Rattle.twelve_steps.specs.Undisturbed.{CanGoOn, IsPossible, is_link_step, is_of_link}
 use Rattle.whoever_goes_on.specs.Play.{AreEnabled, EndsBy, EndsForWhoeverGoesOn, GoesOn, HasEnding, HasOneMore, IsPlay}
@@ -25,7 +25,7 @@ AreOpen k id settled (point ∷ points) =
     (has_ended k (settled || tells_settled k id point.told) point.after ≡ false) × AreOpen k id (settled || tells_settled k id point.told) points
 
 -- it has ended within so many as are counted, or not at all
-data Walked (k id : ℕ) (settled : Bool) (s : LineState) (asked : List ScriptLine) (points : List Point) : Type 0 where
+data Walked (k id : ℕ) (settled : Bool) (s : LineState) (asked : List TrackLine) (points : List Point) : Type 0 where
   has_ended_by : (n : ℕ) → n ≤ steps_to_end k id settled s asked points → EndsBy n k id settled points → Walked k id settled s asked points
   is_open : AreOpen k id settled points → Walked k id settled s asked points
 
@@ -38,21 +38,21 @@ later_counts true false rest n is still few = omega arith
 later_counts true true rest n is still few = absurd cc
 later_counts false over rest n is still few = absurd cc
 
-walk_on : (k id : ℕ) (settled : Bool) (s : LineState) (line : ScriptLine) (asked : List ScriptLine) (point : Point) (points : List Point) → is_link_step k s line point.told ≡ true
+walk_on : (k id : ℕ) (settled : Bool) (s : LineState) (line : TrackLine) (asked : List TrackLine) (point : Point) (points : List Point) → is_link_step k s (asked_on line) point.told ≡ true
     → has_ended k (settled || tells_settled k id point.told) point.after ≡ false → Walked k id (settled || tells_settled k id point.told) point.after asked points → Walked k id settled s (line ∷ asked) (point ∷ points)
 walk_on k id settled s line asked point points step still (has_ended_by n few ends) =
     let now = settled || tells_settled k id point.told in
-    has_ended_by (suc n) (later_counts (is_link_step k s line point.told) (has_ended k now point.after) (steps_to_end k id now point.after asked points) n step still few) (inr ends)
+    has_ended_by (suc n) (later_counts (is_link_step k s (asked_on line) point.told) (has_ended k now point.after) (steps_to_end k id now point.after asked points) n step still few) (inr ends)
 walk_on k id settled s line asked point points step still (is_open open_behind) = is_open (still, open_behind)
 
-walk_by : (over : Bool) (k id : ℕ) (settled : Bool) (s : LineState) (line : ScriptLine) (asked : List ScriptLine) (point : Point) (points : List Point) → is_link_step k s line point.told ≡ true
+walk_by : (over : Bool) (k id : ℕ) (settled : Bool) (s : LineState) (line : TrackLine) (asked : List TrackLine) (point : Point) (points : List Point) → is_link_step k s (asked_on line) point.told ≡ true
     → has_ended k (settled || tells_settled k id point.told) point.after ≡ over → Walked k id (settled || tells_settled k id point.told) point.after asked points → Walked k id settled s (line ∷ asked) (point ∷ points)
 walk_by true k id settled s line asked point points step is later =
     let now = settled || tells_settled k id point.told in
-    has_ended_by 1 (first_counts (is_link_step k s line point.told) (has_ended k now point.after) (steps_to_end k id now point.after asked points) step) (inl is)
+    has_ended_by 1 (first_counts (is_link_step k s (asked_on line) point.told) (has_ended k now point.after) (steps_to_end k id now point.after asked points) step) (inl is)
 walk_by false k id settled s line asked point points step is later = walk_on k id settled s line asked point points step is later
 
-walk : (k id : ℕ) (settled : Bool) (s : LineState) (asked : List ScriptLine) (points : List Point) → IsRun s asked points → AreEnabled k s asked points → Walked k id settled s asked points
+walk : (k id : ℕ) (settled : Bool) (s : LineState) (asked : List TrackLine) (points : List Point) → IsRun s asked points → AreEnabled k s asked points → Walked k id settled s asked points
 walk k id settled s [] [] run enabled = is_open tt
 walk k id settled s [] (point ∷ points) run enabled = absurd run
 walk k id settled s (line ∷ asked) [] run enabled = absurd run
@@ -68,18 +68,18 @@ le_from a b c is few = omega arith
 last_counts : (step over : Bool) → step ≡ true → 1 ≤ one_if step + (if over then 0 else 0)
 last_counts step over is = first_counts step over 0 is
 
-more_count : (k id : ℕ) (settled : Bool) (s : LineState) (asked : List ScriptLine) (points : List Point) (line : ScriptLine) (point : Point) → AreOpen k id settled points
+more_count : (k id : ℕ) (settled : Bool) (s : LineState) (asked : List TrackLine) (points : List Point) (line : TrackLine) (point : Point) → AreOpen k id settled points
     → IsRun s (asked ++ line ∷ []) (points ++ point ∷ []) → AreEnabled k s (asked ++ line ∷ []) (points ++ point ∷ []) → IsRun s asked points
     → length asked + 1 ≤ steps_to_end k id settled s (asked ++ line ∷ []) (points ++ point ∷ [])
 more_count k id settled s [] [] line point still run enabled front =
-    last_counts (is_link_step k s line point.told) (has_ended k (settled || tells_settled k id point.told) point.after) (step_is k (s.lines + 1) line s point.after point.told enabled.0 enabled.1 run.0)
+    last_counts (is_link_step k s (asked_on line) point.told) (has_ended k (settled || tells_settled k id point.told) point.after) (step_is k (s.lines + 1) line s point.after point.told enabled.0 enabled.1 run.0)
 more_count k id settled s [] (point' ∷ points) line point still run enabled front = absurd front
 more_count k id settled s (line' ∷ asked) [] line point still run enabled front = absurd front
 more_count k id settled s (first ∷ asked) (at ∷ points) line point still run enabled front =
     let now = settled || tells_settled k id at.told in
     let rest = more_count k id now at.after asked points line point still.1 run.1 enabled.2 front.1 in
-    let counted = later_counts (is_link_step k s first at.told) (has_ended k now at.after) (steps_to_end k id now at.after (asked ++ line ∷ []) (points ++ point ∷ [])) (length asked + 1) (step_is k (s.lines + 1) first s at.after at.told enabled.0 enabled.1 run.0) still.0 rest in
-    le_from (suc (length asked + 1)) (length (first ∷ asked) + 1) (one_if (is_link_step k s first at.told) + (if has_ended k now at.after then 0 else steps_to_end k id now at.after (asked ++ line ∷ []) (points ++ point ∷ []))) (omega arith) counted
+    let counted = later_counts (is_link_step k s (asked_on first) at.told) (has_ended k now at.after) (steps_to_end k id now at.after (asked ++ line ∷ []) (points ++ point ∷ [])) (length asked + 1) (step_is k (s.lines + 1) first s at.after at.told enabled.0 enabled.1 run.0) still.0 rest in
+    le_from (suc (length asked + 1)) (length (first ∷ asked) + 1) (one_if (is_link_step k s (asked_on first) at.told) + (if has_ended k now at.after then 0 else steps_to_end k id now at.after (asked ++ line ∷ []) (points ++ point ∷ []))) (omega arith) counted
 
 -- ---- the state behind an open play
 
@@ -102,8 +102,8 @@ ends_more (suc n) (suc most) k id settled (point ∷ points) few (inr ends) = in
 
 -- ---- a play with one more line, and the front of a play
 
-enabled_more : (k : ℕ) (s : LineState) (asked : List ScriptLine) (points : List Point) (line : ScriptLine) (point : Point) → IsRun s asked points → AreEnabled k s asked points
-    → is_of_link k (state_behind s points) line ≡ true → IsPossible (state_behind s points) line → AreEnabled k s (asked ++ line ∷ []) (points ++ point ∷ [])
+enabled_more : (k : ℕ) (s : LineState) (asked : List TrackLine) (points : List Point) (line : TrackLine) (point : Point) → IsRun s asked points → AreEnabled k s asked points
+    → is_of_link k (state_behind s points) (asked_on line) ≡ true → IsPossible (state_behind s points) (asked_on line) → AreEnabled k s (asked ++ line ∷ []) (points ++ point ∷ [])
 enabled_more k s [] [] line point run enabled is can = (is, can, tt)
 enabled_more k s [] (at ∷ points) line point run enabled is can = absurd run
 enabled_more k s (first ∷ asked) [] line point run enabled is can = absurd run
@@ -112,13 +112,13 @@ enabled_more k s (first ∷ asked) (at ∷ points) line point run enabled is can
 abbrev point_of : {k : ℕ} {s : LineState} → HasOneMore k s → Point
 point_of more = record { told = more.has.told; after = more.has.after }
 
-play_more : (k : ℕ) (s : LineState) (asked : List ScriptLine) (points : List Point) (more : HasOneMore k (state_behind s points)) → IsPlay k s asked points → IsPlay k s (asked ++ more.line ∷ []) (points ++ point_of more ∷ [])
+play_more : (k : ℕ) (s : LineState) (asked : List TrackLine) (points : List Point) (more : HasOneMore k (state_behind s points)) → IsPlay k s asked points → IsPlay k s (asked ++ own_line more.line ∷ []) (points ++ point_of more ∷ [])
 play_more k s asked points more play = record {
-  run = run-append s asked (more.line ∷ []) points (point_of more ∷ []) play.run (more.has.steps, tt);
-  enabled = enabled_more k s asked points more.line (point_of more) play.run play.enabled more.is_step more.possible;
+  run = run-append s asked (own_line more.line ∷ []) points (point_of more ∷ []) play.run (more.has.steps, tt);
+  enabled = enabled_more k s asked points (own_line more.line) (point_of more) play.run play.enabled more.is_step more.possible;
 }
 
-play_front : (n k : ℕ) (s : LineState) (asked : List ScriptLine) (points : List Point) → IsRun s asked points → AreEnabled k s asked points → IsPlay k s (take n asked) (take n points)
+play_front : (n k : ℕ) (s : LineState) (asked : List TrackLine) (points : List Point) → IsRun s asked points → AreEnabled k s asked points → IsPlay k s (take n asked) (take n points)
 play_front zero k s asked points run enabled = record { run = tt; enabled = tt }
 play_front (suc n) k s [] [] run enabled = record { run = tt; enabled = tt }
 play_front (suc n) k s [] (point ∷ points) run enabled = absurd run
@@ -138,35 +138,35 @@ ends_front (suc n) (suc most) k id settled (point ∷ points) (inr ends) = inr (
 
 -- what the law of undisturbed stretches says of plays of at most thirteen lines
 abbrev OfPlays : ℕ → ℕ → LineState → Type 0
-OfPlays k id s = (asked : List ScriptLine) (points : List Point) → length asked ≤ 13 → IsPlay k s asked points → EndsWithin 12 k id s asked points
+OfPlays k id s = (asked : List TrackLine) (points : List Point) → length asked ≤ 13 → IsPlay k s asked points → EndsWithin 12 k id s asked points
 
 one_more : (k : ℕ) (s : LineState) → CanGoOn k s → HasOneMore k s
 one_more k s can = record { line = can.line; is_step = can.is_step; possible = can.possible; has = each_line (s.lines + 1) can.line s }
 
-open_goes_on : (k id : ℕ) (s : LineState) (asked : List ScriptLine) (points : List Point) → OfPlays k id s → length asked ≤ 12 → IsPlay k s asked points → AreOpen k id false points → GoesOn 12 k s asked points
+open_goes_on : (k id : ℕ) (s : LineState) (asked : List TrackLine) (points : List Point) → OfPlays k id s → length asked ≤ 12 → IsPlay k s asked points → AreOpen k id false points → GoesOn 12 k s asked points
 open_goes_on k id s asked points of_plays short play still =
     let more = one_more k (state_behind s points) (can_behind k id false s points still (of_plays asked points (omega arith) play).possible) in
     let longer = play_more k s asked points more play in
-    let longer_by = length-append asked (more.line ∷ []) in
-    let few = (of_plays (asked ++ more.line ∷ []) (points ++ point_of more ∷ []) (omega (arith, longer_by)) longer).few in
-    let counted = more_count k id false s asked points more.line (point_of more) still longer.run longer.enabled play.run in
+    let longer_by = length-append asked (own_line more.line ∷ []) in
+    let few = (of_plays (asked ++ own_line more.line ∷ []) (points ++ point_of more ∷ []) (omega (arith, longer_by)) longer).few in
+    let counted = more_count k id false s asked points (own_line more.line) (point_of more) still longer.run longer.enabled play.run in
     record { few = omega (arith, few, counted); more = more }
 
-walked_ends : (k id : ℕ) (s : LineState) (asked : List ScriptLine) (points : List Point) → OfPlays k id s → length asked ≤ 12 → IsPlay k s asked points → Walked k id false s asked points
+walked_ends : (k id : ℕ) (s : LineState) (asked : List TrackLine) (points : List Point) → OfPlays k id s → length asked ≤ 12 → IsPlay k s asked points → Walked k id false s asked points
     → EndsBy 12 k id false points ⊎ GoesOn 12 k s asked points
 walked_ends k id s asked points of_plays short play (has_ended_by n few ends) =
     let most = (of_plays asked points (omega arith) play).few in
     inl (ends_more n 12 k id false points (omega (arith, few, most)) ends)
 walked_ends k id s asked points of_plays short play (is_open still) = inr (open_goes_on k id s asked points of_plays short play still)
 
-short_ends : (k id : ℕ) (s : LineState) (asked : List ScriptLine) (points : List Point) → OfPlays k id s → length asked ≤ 12 → IsPlay k s asked points → EndsBy 12 k id false points ⊎ GoesOn 12 k s asked points
+short_ends : (k id : ℕ) (s : LineState) (asked : List TrackLine) (points : List Point) → OfPlays k id s → length asked ≤ 12 → IsPlay k s asked points → EndsBy 12 k id false points ⊎ GoesOn 12 k s asked points
 short_ends k id s asked points of_plays short play = walked_ends k id s asked points of_plays short play (walk k id false s asked points play.run play.enabled)
 
-front_ends : (k id : ℕ) (s : LineState) (asked : List ScriptLine) (points : List Point) → length (take 12 asked) ≡ 12 → EndsBy 12 k id false (take 12 points) ⊎ GoesOn 12 k s (take 12 asked) (take 12 points) → EndsBy 12 k id false points
+front_ends : (k id : ℕ) (s : LineState) (asked : List TrackLine) (points : List Point) → length (take 12 asked) ≡ 12 → EndsBy 12 k id false (take 12 points) ⊎ GoesOn 12 k s (take 12 asked) (take 12 points) → EndsBy 12 k id false points
 front_ends k id s asked points counted (inl ends) = ends_front 12 12 k id false points ends
 front_ends k id s asked points counted (inr goes) = let few = goes.few in absurd (omega (arith, few, counted))
 
-each_play : (k id : ℕ) (s : LineState) → OfPlays k id s → (asked : List ScriptLine) (points : List Point) → IsPlay k s asked points → EndsBy 12 k id false points ⊎ GoesOn 12 k s asked points
+each_play : (k id : ℕ) (s : LineState) → OfPlays k id s → (asked : List TrackLine) (points : List Point) → IsPlay k s asked points → EndsBy 12 k id false points ⊎ GoesOn 12 k s asked points
 each_play k id s of_plays asked points play =
     elim (beyond_or_not (length asked) 12) [
       | inl short ↦ short_ends k id s asked points of_plays short play
@@ -178,25 +178,25 @@ each_play k id s of_plays asked points play =
 
 -- ---- some play ends it
 
-reach_by : (fuel k id : ℕ) (s : LineState) (asked : List ScriptLine) (points : List Point) → OfPlays k id s → IsPlay k s asked points → length asked + fuel ≡ 12
+reach_by : (fuel k id : ℕ) (s : LineState) (asked : List TrackLine) (points : List Point) → OfPlays k id s → IsPlay k s asked points → length asked + fuel ≡ 12
     → ((more : HasOneMore k (state_behind s points)) → length asked < 12 → HasEnding 12 k id s) → EndsBy 12 k id false points ⊎ GoesOn 12 k s asked points → HasEnding 12 k id s
 reach_by fuel k id s asked points of_plays play counted later (inl ends) = record { lines = asked; points = points; play = play; ended = ends }
 reach_by fuel k id s asked points of_plays play counted later (inr goes) = later goes.more goes.few
 
-longer_by : (fuel : ℕ) (asked : List ScriptLine) (line : ScriptLine) → length asked + suc fuel ≡ 12 → length (asked ++ line ∷ []) + fuel ≡ 12
+longer_by : (fuel : ℕ) (asked : List TrackLine) (line : TrackLine) → length asked + suc fuel ≡ 12 → length (asked ++ line ∷ []) + fuel ≡ 12
 longer_by fuel asked line counted = let longer = length-append asked (line ∷ []) in omega (arith, longer)
 
-reach : (fuel k id : ℕ) (s : LineState) (asked : List ScriptLine) (points : List Point) → OfPlays k id s → IsPlay k s asked points → length asked + fuel ≡ 12 → HasEnding 12 k id s
+reach : (fuel k id : ℕ) (s : LineState) (asked : List TrackLine) (points : List Point) → OfPlays k id s → IsPlay k s asked points → length asked + fuel ≡ 12 → HasEnding 12 k id s
 reach zero k id s asked points of_plays play counted =
     reach_by zero k id s asked points of_plays play counted (λ more few. absurd (omega (arith, few, counted))) (each_play k id s of_plays asked points play)
 reach (suc fuel) k id s asked points of_plays play counted =
     reach_by (suc fuel) k id s asked points of_plays play counted
-    (λ more few. reach fuel k id s (asked ++ more.line ∷ []) (points ++ point_of more ∷ []) of_plays (play_more k s asked points more play) (longer_by fuel asked more.line counted))
+    (λ more few. reach fuel k id s (asked ++ own_line more.line ∷ []) (points ++ point_of more ∷ []) of_plays (play_more k s asked points more play) (longer_by fuel asked (own_line more.line) counted))
     (each_play k id s of_plays asked points play)
 
 -- ---- the law
 
-fit_both : (asked others : List ScriptLine) → AllByRecursion IsFitLine asked → AllByRecursion IsFitLine others → AllByRecursion IsFitLine (asked ++ others)
+fit_both : (asked others : List TrackLine) → AllByRecursion IsFitTrack asked → AllByRecursion IsFitTrack others → AllByRecursion IsFitTrack (asked ++ others)
 fit_both [] others one two = two
 fit_both (line ∷ asked) others one two = (one.0, fit_both asked others one.1 two)
 

@@ -8,23 +8,24 @@ use Rattle.std.specs.Prelude.{Bool, List, [], false, length, suc, true, zero, �
 use Rattle.std.specs.List.{AllByRecursion}
 use Rattle.line_script.specs.declared.line.ScriptLine.{ScriptLine}
 use Rattle.line_step.specs.Lies.{has_lie}
+use Rattle.line_step.specs.Tracks.{TrackLine, asked_on}
 use Rattle.line_step.specs.Runs.{IsRun, Point, state_behind, IsShort}
 use Rattle.line_step.specs.State.{LineState, no_line}
 use Rattle.one_report.specs.Steps.{HasStep}
-use Rattle.one_standing.specs.Standing.{IsFitLine}
+use Rattle.one_standing.specs.Standing.{IsFitTrack}
 use Rattle.twelve_steps.specs.Announced.{IsAnnounced}
 use Rattle.twelve_steps.specs.Twelve.{has_ended, tells_settled}
 use Rattle.twelve_steps.specs.Undisturbed.{IsPossible, is_of_link}
 
 -- each line is a link step of k, and no reason stands against it in the state before it
-abbrev pub AreEnabled : ℕ → LineState → List ScriptLine → List Point → Type 0
+abbrev pub AreEnabled : ℕ → LineState → List TrackLine → List Point → Type 0
 AreEnabled k s [] points = Unit {0}
 AreEnabled k s (line ∷ lines) [] = ⊥
 AreEnabled k s (line ∷ lines) (point ∷ points) =
-    (is_of_link k s line ≡ true) × IsPossible s line × AreEnabled k point.after lines points
+    (is_of_link k s (asked_on line) ≡ true) × IsPossible s (asked_on line) × AreEnabled k point.after lines points
 
 -- a play: somebody does such lines, one after another
-pub record IsPlay (k : ℕ) (s : LineState) (lines : List ScriptLine)
+pub record IsPlay (k : ℕ) (s : LineState) (lines : List TrackLine)
     (points : List Point) : Type 0 where
   pub run : IsRun s lines points
   pub enabled : AreEnabled k s lines points
@@ -48,19 +49,19 @@ pub record HasOneMore (k : ℕ) (s : LineState) : Type 0 where
 
 -- a play that ended the handover
 pub record HasEnding (most k id : ℕ) (s : LineState) : Type 0 where
-  pub lines : List ScriptLine
+  pub lines : List TrackLine
   pub points : List Point
   pub play : IsPlay k s lines points
   pub ended : EndsBy most k id false points
 
 -- fewer lines than these were done so far, and one more can be
-pub record GoesOn (most k : ℕ) (s : LineState) (lines : List ScriptLine)
+pub record GoesOn (most k : ℕ) (s : LineState) (lines : List TrackLine)
     (points : List Point) : Type 0 where
   pub few : length lines < most
   pub more : HasOneMore k (state_behind s points)
 
 pub record WhoeverGoesOn (most k id : ℕ) (s : LineState) : Type 0 where
-  pub ends : (lines : List ScriptLine) (points : List Point) → IsPlay k s lines points
+  pub ends : (lines : List TrackLine) (points : List Point) → IsPlay k s lines points
       → EndsBy most k id false points ⊎ GoesOn most k s lines points
   pub some : HasEnding most k id s
 
@@ -68,7 +69,7 @@ pub record WhoeverGoesOn (most k id : ℕ) (s : LineState) : Type 0 where
 -- come or go unseen. A script has at most 1,000,000 lines, and its barcodes are texts
 abbrev pub EndsForWhoeverGoesOn : Type 0
 EndsForWhoeverGoesOn =
-    (asked : List ScriptLine) (earlier : List Point) (k id : ℕ) → AllByRecursion IsFitLine asked
+    (asked : List TrackLine) (earlier : List Point) (k id : ℕ) → AllByRecursion IsFitTrack asked
     → IsShort no_line earlier → (state_behind no_line earlier).lines + 12 < 1000000
     → IsRun no_line asked earlier → has_lie earlier ≡ false
     → IsAnnounced (state_behind no_line earlier) k id

@@ -38,6 +38,7 @@ use Rattle.node_core.specs.Node.{NodeState, new_node}
 use Rattle.node_core.specs.declared.input.Input.{Input}
 use Rattle.node_core.specs.declared.input.Input.TheVariants as inputs
 use Rattle.line_report.specs.declared.happening.Happening.{Happening}
+use Rattle.line_step.specs.Tracks.{AreBesideNodes, IsBeside, TrackLine, TrackSteps, other_line, own_line}
 use Rattle.line_step.specs.Lines.{Becomes, Connects, Flows, connecting, met}
 use Rattle.line_step.specs.Reasons.{may_do}
 use Rattle.line_step.specs.Shown.{standings_told}
@@ -234,3 +235,35 @@ line_once number line before after told steps =
     (counted_by before next steps.lines machine query (answers_of machine query steps.done)
     (turn_once number (request_of line) before next steps.done
     (line_turns number line before next steps.done steps.does) machine query))))
+
+-- ---- a track
+
+beside_orders : (nodes others : List NodeState) (place query : ℕ)
+    → AreBesideNodes nodes others
+    → option_and_then (λ node. answer_to node.orders query) (slice_get others place)
+    ≡ option_and_then (λ node. answer_to node.orders query) (slice_get nodes place)
+beside_orders [] [] place query are = refl
+beside_orders [] (other ∷ others) place query are = absurd are
+beside_orders (node ∷ nodes) [] place query are = absurd are
+beside_orders (node ∷ nodes) (other ∷ others) zero query are =
+    ap (λ (orders : List Order). answer_to orders query) are.0.orders
+beside_orders (node ∷ nodes) (other ∷ others) (suc place) query are =
+    beside_orders nodes others place query are.1
+
+-- a line of another track leaves the answers
+beside_kept : (before after : LineState) (machine query : ℕ) → IsBeside before after
+    → kept_in after machine query ≡ kept_in before machine query
+beside_kept before after zero query is = refl
+beside_kept before after (suc place) query is =
+    beside_orders before.machines after.machines place query is.machines
+
+pub track_once : (number : ℕ) (line : TrackLine) (before after : LineState)
+    (told : List Happening) → TrackSteps number line before after told
+    → AnswersOnce before after told
+track_once number (own_line line) before after told steps =
+    line_once number line before after told steps
+track_once number other_line before after told steps =
+    once_of before after told (λ machine query.
+    subst (λ (words : List (List ℕ)). Answers before after machine query words)
+    (sym (ap (answers_of machine query) steps.1))
+    (beside_kept before after machine query steps.0))

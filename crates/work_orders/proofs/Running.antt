@@ -18,11 +18,11 @@ use Rattle.std.proofs.Common.{
   append-nil,
   append_assoc,
 }
-use Rattle.line_script.specs.declared.line.ScriptLine.{ScriptLine}
+use Rattle.line_step.specs.Tracks.{TrackLine}
 use Rattle.line_step.specs.Runs.{IsRun, Point, state_behind, all_told}
 use Rattle.line_step.specs.State.{LineState, no_line}
 use Rattle.work_orders.specs.Answers.{Answers, OneAnswer, answers_of, kept_in, one_of}
-use Rattle.work_orders.proofs.Lines.{line_once}
+use Rattle.work_orders.proofs.Lines.{track_once}
 use Rattle.work_orders.proofs.Told.{answers_join}
 
 -- what is kept behind a line is what was kept before it, and what the line tells
@@ -36,7 +36,7 @@ one_more_by before after machine query (word ∷ []) gets =
     (sym gets.kept)
 one_more_by before after machine query (_ ∷ (_ ∷ _)) never = absurd never
 
-run_answers : (s : LineState) (asked : List ScriptLine) (points : List Point) (machine query : ℕ)
+run_answers : (s : LineState) (asked : List TrackLine) (points : List Point) (machine query : ℕ)
     → IsRun s asked points
     → one_of (kept_in s machine query) ++ answers_of machine query (all_told points)
     ≡ one_of (kept_in (state_behind s points) machine query)
@@ -47,7 +47,7 @@ run_answers s (line ∷ asked) (point ∷ points) machine query run =
     let first : List (List ℕ) = one_of (kept_in s machine query) in
     let here : List (List ℕ) = answers_of machine query point.told in
     let later : List (List ℕ) = answers_of machine query (all_told points) in
-    let once = line_once (s.lines + 1) line s point.after point.told run.0 in
+    let once = track_once (s.lines + 1) line s point.after point.told run.0 in
     ap (λ (words : List (List ℕ)). first
     ++ words) (answers_join machine query point.told (all_told points))
     ∙ sym (append_assoc first here later)

@@ -27,6 +27,7 @@ use Rattle.node_core.specs.declared.act.Act.TheVariants as acts
 use Rattle.line_report.specs.declared.happening.Happening.{Happening}
 use Rattle.line_report.specs.declared.happening.Happening.TheVariants as happenings
 use Rattle.line_step.specs.Lines.{LineSteps}
+use Rattle.line_step.specs.Tracks.{TrackLine}
 use Rattle.line_step.specs.Runs.{IsRun, Point, state_behind, all_told}
 use Rattle.line_step.specs.State.{LineState, machine_in, no_line}
 
@@ -101,7 +102,7 @@ one_of (Some word) = word ∷ []
 -- that is kept behind it, if one is, and no other
 abbrev pub OneAnswer : Type 0
 OneAnswer =
-    (asked : List ScriptLine) (points : List Point) (machine query : ℕ)
+    (asked : List TrackLine) (points : List Point) (machine query : ℕ)
     → IsRun no_line asked points
     → answers_of machine query (all_told points)
     ≡ one_of (kept_in (state_behind no_line points) machine query)
