@@ -253,7 +253,7 @@ pub record Based (messages : List Horizontal) (stands : Bool) (waiting bytes : L
 
 based_on : {stands : Bool} {waiting : List ℕ} {stream : Stream} {messages : List Horizontal} → Carries stands waiting stream messages → Based messages stands waiting (coming stream)
 based_on (carries_whole said fit flows) = record { ups = bodies said; is = ups_whole said fit refl flows; up = flow_whole said fit (inr refl) flows }
-based_on (carries_spoiled spoiled) = record { ups = []; is = ups_none; up = flow_spoiled spoiled }
+based_on (carries_spoiled spoiled hides) = record { ups = []; is = ups_none; up = flow_spoiled spoiled }
 based_on (carries_over off none) = record { ups = []; is = ups_none; up = flow_over off none }
 
 abbrev pub Base : ℕ → Trace → LineState → Type 0
@@ -327,7 +327,7 @@ carries_fit : {stands : Bool} {stream : Stream} {messages : List Horizontal} →
     → AreWords old piece new still words → Carries stands old stream messages → AreFitWords words
 carries_fit alone words old piece new still later is some are (carries_whole said good flows) =
     alone.fit_words old piece (coming later) new still words said (alone.sayable said good) good (subst (λ (bytes : List ℕ). FlowsAs old bytes (texts_of said)) is flows) are
-carries_fit alone words old piece new still later is some are (carries_spoiled spoiled) = alone.fit_wrong old piece (coming later) new still words (subst (λ (bytes : List ℕ). Spoiled old bytes) is spoiled) are
+carries_fit alone words old piece new still later is some are (carries_spoiled spoiled hides) = alone.fit_wrong old piece (coming later) new still words (subst (λ (bytes : List ℕ). Spoiled old bytes) is spoiled) are
 carries_fit {stream = stream} alone words old piece new still later is some are (carries_over off nothing) = absurd (false≢true (sym some ∙ empty_of (coming stream) nothing))
 
 pub flow_fits : SaysAlone → (t : Trace) (number j : ℕ) (side : Side) (count : Option ℕ) (before after : LineState) (told : List Happening) → CanFlow (j + 1) side before → Stands t before
@@ -352,7 +352,7 @@ hears_of alone words old piece new still later is some are (carries_whole said f
       oldest = h.oldest;
       up = λ on good. flow_whole (drop (length words) said) (fit_behind (length words) said fit) (inr (ap starts_of (bodies_drop (length words) said))) (h.flows on);
     }
-hears_of alone words old piece new still later is some are (carries_spoiled spoiled) =
+hears_of alone words old piece new still later is some are (carries_spoiled spoiled hides) =
     let h : HeardSpoiled [] words new (coming later) still = alone.wrong old piece (coming later) new still words [] (subst (λ (bytes : List ℕ). Spoiled old bytes) is spoiled) are in
     record { ups = []; is = ups_none; oldest = h.oldest; up = λ on good. flow_spoiled (h.spoiled on (no_words words h.oldest good)) }
 hears_of {stream = stream} alone words old piece new still later is some are (carries_over off nothing) = absurd (false≢true (sym some ∙ empty_of (coming stream) nothing))

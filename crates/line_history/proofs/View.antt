@@ -183,7 +183,7 @@ oldest_of : {stands : Bool} {stream : Stream} {messages : List Horizontal} → S
 oldest_of alone words old piece new still later is some are (carries_whole said good flows) =
     let all : FlowsAs old (piece ++ coming later) (texts_of said) = subst (λ (bytes : List ℕ). FlowsAs old bytes (texts_of said)) is flows in
     (alone.oldest old piece (coming later) new still words said (alone.sayable said good) all are).oldest
-oldest_of {messages = messages} alone words old piece new still later is some are (carries_spoiled spoiled) =
+oldest_of {messages = messages} alone words old piece new still later is some are (carries_spoiled spoiled hides) =
     let all : Spoiled old (piece ++ coming later) = subst (λ (bytes : List ℕ). Spoiled old bytes) is spoiled in
     (alone.wrong old piece (coming later) new still words messages all are).oldest
 oldest_of {stream = stream} alone words old piece new still later is some are (carries_over off nothing) = absurd (let no_way : true ≡ false = sym (ap is_empty nothing) ∙ some in cc)

@@ -120,7 +120,7 @@ down_whole : {Taint : Type 0} {ready stands : Bool} {waiting : List ℕ} {stream
     → Carries stands waiting stream messages → (free ≡ true → stands ≡ true → (ready ≡ true) ⊎ (has_service (down_words messages) ≡ true)) → Clear Taint Entry ready free stands waiting (coming stream)
 down_whole {ready = ready} {waiting = waiting} {stream = stream} alone free sent fit from flows (carries_whole was good same) then =
     clear_whole sent fit from (λ is on. by_scene ready was sent (same_said alone waiting (coming stream) was sent good fit same flows) (then is on)) flows
-down_whole {waiting = waiting} {stream = stream} alone free sent fit from flows (carries_spoiled spoiled) then = absurd (never_spoiled alone waiting (coming stream) sent pong fit pong_fit flows spoiled)
+down_whole {waiting = waiting} {stream = stream} alone free sent fit from flows (carries_spoiled spoiled hides) then = absurd (never_spoiled alone waiting (coming stream) sent pong fit pong_fit flows spoiled)
 down_whole alone free sent fit from flows (carries_over off none) then = clear_whole sent fit from (λ is on. absurd (false≢true (sym off ∙ on))) flows
 
 -- ---- a link of a line

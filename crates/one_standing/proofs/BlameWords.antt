@@ -85,7 +85,7 @@ pub carries_oldest : {stands : Bool} {old : List ℕ} {stream : Stream} {message
     → AreWords old piece new still heard → Carries stands old stream messages → AreOldest heard messages
 carries_oldest {old = old} alone piece later new still heard is some are (carries_whole sent fit flows) =
     (alone.oldest old piece later new still heard sent (alone.sayable sent fit) (subst (λ (b : List ℕ). Flows old b (texts_of sent)) is flows) are).oldest
-carries_oldest {old = old} {messages = messages} alone piece later new still heard is some are (carries_spoiled spoiled) =
+carries_oldest {old = old} {messages = messages} alone piece later new still heard is some are (carries_spoiled spoiled hides) =
     (alone.wrong old piece later new still heard messages (subst (λ (b : List ℕ). Spoiled old b) is spoiled) are).oldest
 carries_oldest {stream = stream} alone piece later new still heard is some are (carries_over off none) = absurd (false≢true (sym some ∙ empty_of (coming stream) none))
 

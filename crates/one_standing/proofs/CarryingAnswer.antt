@@ -45,7 +45,8 @@ use Rattle.line_step.specs.Opened.{open_act}
 use Rattle.line_step.specs.World.{end_of}
 use Rattle.line_step.proofs.Ends.{same_send}
 use Rattle.one_standing.specs.Carried.{Carries}
-use Rattle.one_standing.proofs.Carrying.{SaysAlone, carries_answer, carries_off}
+use Rattle.one_standing.proofs.Carrying.{SaysAlone, carries_off}
+use Rattle.one_standing.proofs.CarryingTexts.{carries_answer}
 use Rattle.one_standing.proofs.CarryingActs.{IsLike, acts_like, boards_now, driven_entry, driven_exit}
 use Rattle.one_standing.proofs.CarryingSides.{IsSide, Joint, begun_text, closed_away, closed_begun, closed_home, closed_stands, heard_by, heard_in, home_heard, home_on, home_over, joint_as, joint_closed, joint_driven, joint_heard, joint_on, joint_sent, limited}
 

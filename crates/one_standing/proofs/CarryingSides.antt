@@ -17,7 +17,8 @@ use Rattle.link_messages.specs.Fit.{IsFit}
 use Rattle.line_step.specs.Opened.{open_act, open_after}
 use Rattle.line_step.specs.World.{end_of}
 use Rattle.one_standing.specs.Carried.{Carries, carries_over}
-use Rattle.one_standing.proofs.Carrying.{SaysAlone, carries_off, carries_said}
+use Rattle.one_standing.proofs.Carrying.{SaysAlone, carries_off}
+use Rattle.one_standing.proofs.CarryingTexts.{carries_said}
 
 -- ---- how many messages a side hears in some acts
 

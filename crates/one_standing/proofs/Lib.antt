@@ -16,6 +16,8 @@ pub mod Carrying
 pub mod CarryingActs
 pub mod CarryingAnswer
 pub mod CarryingSides
+pub mod CarryingTexts
+pub mod Cleared
 pub mod Counting
 pub mod CountingQuiet
 pub mod Elsewhere

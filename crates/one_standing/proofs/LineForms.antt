@@ -160,7 +160,7 @@ effect_bears connects number request t before next told all s honest fit (effect
 effect_bears connects number request t before next told all s honest fit (effects.connects machine may did) = connects number machine t before next told all s may did
 effect_bears connects number request t before next told all s honest fit (effects.flows machine side count may did) = flow_line number machine side count t before next told all s may did
 effect_bears connects number request t before next told all s honest fit (effects.cuts gap may b) = becomes_by (λ l ts. Bearing l) b (cut_trace gap t, cut_bears gap t before s.around.st)
-effect_bears connects number request t before next told all s honest fit (effects.spoils machine side may b) = becomes_by (λ l ts. Bearing l) b (spoil_bears machine side t before s.around.st s.waits may)
+effect_bears connects number request t before next told all s honest fit (effects.spoils machine side may b) = becomes_by (λ l ts. Bearing l) b (spoil_bears s.alone machine side t before s.around.st s.waits may)
 effect_bears connects number request t before next told all s honest fit (effects.moves gap step floor is b) = moves_bear gap step t before next told all s.around (still_bears t before) (done_move before is b)
 effect_bears connects number request t before next told all s honest fit (effects.lies machine sensed may b) = absurd (no_lie told honest machine sensed (unvouched_told before.unvouched) b.told_is)
 effect_bears connects number request t before next told all s honest fit (effects.unsees machine side may b) = absurd (none_unseen told honest machine side (unvouched_told before.unvouched) b.told_is)

@@ -47,11 +47,12 @@ use Rattle.line_step.specs.Steps.{MachineSteps, moment_of, unread_by}
 use Rattle.line_step.specs.World.{WorldParts, link_at, with_link}
 use Rattle.line_step.proofs.Numbers.{floor_stays, link_set_other, link_set_own, machine_within}
 use Rattle.line_step.proofs.Opening.{steps_open}
-use Rattle.one_standing.specs.Carried.{Carried, Carries, Trace, carries_over, carries_spoiled, carries_whole}
+use Rattle.one_standing.specs.Carried.{Carried, Carries, Hides, Trace, carries_over, carries_spoiled, carries_whole}
 use Rattle.one_standing.specs.Links.{AreWholeLinks}
 use Rattle.one_standing.specs.Mirrors.{Mirrors}
 use Rattle.one_standing.specs.Stands.{Stands}
 use Rattle.one_standing.proofs.Carrying.{SaysAlone}
+use Rattle.one_standing.proofs.Cleared.{hides_arrived}
 use Rattle.one_standing.proofs.CarryingSides.{Home, Joint, heard_in, home_closes, home_hears}
 use Rattle.one_standing.proofs.Counting.{HearsAll, is_wrong_first, step_hears_all}
 use Rattle.one_standing.proofs.Mirroring.{mirrors_by, same_some}
@@ -100,14 +101,20 @@ arrives alone side told words old piece new still later is some are hears closes
       oldest = heard.oldest;
       home = home_when side told still still refl (λ on. whole_home side told words said (hears on).count (carries_whole (drop (length words) said) (fit_behind (length words) said good) (heard.flows on))) closes;
     }
-arrives {stands = stands} {messages = messages} alone side told words old piece new still later is some are hears closes (carries_spoiled spoiled) =
+arrives {stands = stands} {messages = messages} alone side told words old piece new still later is some are hears closes (carries_spoiled spoiled hides) =
     let all : Spoiled old (piece ++ coming later) = subst (λ (bytes : List ℕ). Spoiled old bytes) is spoiled in
     let heard : HeardSpoiled messages words new (coming later) still = alone.wrong old piece (coming later) new still words messages all are in
     let none : HeardSpoiled [] words new (coming later) still = alone.wrong old piece (coming later) new still words [] all are in
     record {
       fit = alone.fit_wrong old piece (coming later) new still words all are;
       oldest = heard.oldest;
-      home = home_when side told still still refl (λ on. carries_spoiled (heard.spoiled on (no_words words none.oldest (hears on).good))) closes;
+      home = home_when side told still still refl
+          (λ on.
+          let quiet : words ≡ [] = no_words words none.oldest (hears on).good in
+          carries_spoiled (heard.spoiled on quiet)
+          (subst (λ (n : ℕ). Hides (new ++ coming later) (drop n messages)) (sym ((hears on).count ∙ ap length quiet))
+          (hides_arrived old piece (coming later) new (are.all on) quiet (subst (λ (bytes : List ℕ). Hides (old ++ bytes) messages) is hides))))
+          closes;
     }
 arrives {stream = stream} alone side told words old piece new still later is some are hears closes (carries_over off nothing) = absurd (false≢true (sym some ∙ empty_of (coming stream) nothing))
 

@@ -1,5 +1,5 @@
 -- A link that is cut or spoiled: the relation of the line goes on.
-use Rattle.std.proofs.Common.{Bool, List, [], ap, arith, false, inl, inr, refl, subst, sym, true, ℕ, ◌+◌, ◌<◌, ◌==◌, ◌∙◌, ◌≡◌, ◌≢◌, ◌≤◌, ◌⊎◌}
+use Rattle.std.proofs.Common.{Bool, List, [], ap, arith, false, inl, inr, refl, subst, sym, true, ℕ, ◌++◌, ◌+◌, ◌∷◌, ◌<◌, ◌==◌, ◌∙◌, ◌≡◌, ◌≢◌, ◌≤◌, ◌⊎◌}
 use Rattle.std.specs.Prelude.{cond, is_some}
 use Rattle.std.proofs.lemmas.Bool.{false≢true, ltb-true}
 use Rattle.line_base.specs.Text.{IsText}
@@ -30,7 +30,7 @@ use Rattle.line_step.specs.State.{LineState, with_world}
 use Rattle.line_step.specs.World.{end_of, link_at, link_of, with_link}
 use Rattle.line_step.proofs.Changing.{each_between, link_changes}
 use Rattle.line_step.proofs.Numbers.{Written, floor_stays, link_set, link_set_other, nowhere, same_or_not, written}
-use Rattle.one_standing.specs.Carried.{Carried, Carries, IsFitMachine, Trace, between_of, carries_over, carries_spoiled, stand_of}
+use Rattle.one_standing.specs.Carried.{Carried, Carries, Hides, IsFitMachine, Trace, between_of, carries_over, carries_spoiled, carries_whole, stand_of}
 use Rattle.one_standing.specs.Kept.{Keeps}
 use Rattle.one_standing.specs.Links.{IsWholeLink}
 use Rattle.one_standing.specs.Places.{AreApart, LiesAt, LiesIn, Spot, lies_at, lies_in}
@@ -39,6 +39,8 @@ use Rattle.one_standing.specs.Standing.{AreOnce}
 use Rattle.one_standing.specs.Stands.{IsAtRest, Stands}
 use Rattle.one_standing.specs.Waits.{AreWaiting, waiting_at}
 use Rattle.one_standing.proofs.Behind.{Bears}
+use Rattle.one_standing.proofs.Carrying.{SaysAlone}
+use Rattle.one_standing.proofs.Cleared.{hides_nul, hides_whole}
 use Rattle.one_standing.proofs.RestLine.{node_there}
 use Rattle.one_standing.proofs.SpoilingWaits.{same_node}
 use Rattle.one_standing.proofs.Traces.{SameTrace, link_changes_of, put, put_other, put_same}
@@ -198,8 +200,17 @@ cut_bears gap t s st =
 
 -- ---- a link is spoiled
 
-nul_carries : {stands : Bool} {waiting : List ℕ} {messages : List Horizontal} (stream : Stream) → is_begun stream.texts stream.arrived ≡ true → answer_of waiting ≡ NeedMore → Carries stands waiting (with_nul stream) messages
-nul_carries {waiting = waiting} stream begun needs = carries_spoiled (subst (λ (bytes : List ℕ). Spoiled waiting bytes) (sym (coming_of_nul stream begun)) (puts_a_nul waiting (coming stream) needs))
+hides_carried : {stands : Bool} {waiting : List ℕ} {stream : Stream} {messages : List Horizontal} → SaysAlone → stands ≡ true → Carries stands waiting stream messages → Hides (waiting ++ coming stream) messages
+hides_carried alone on (carries_whole said fit flows) = hides_whole alone said fit flows
+hides_carried alone on (carries_spoiled spoiled hides) = hides
+hides_carried alone on (carries_over off none) = absurd (false≢true (sym off ∙ on))
+
+nul_carries : {stands : Bool} {waiting : List ℕ} {messages : List Horizontal} → SaysAlone → (stream : Stream) → is_begun stream.texts stream.arrived ≡ true → answer_of waiting ≡ NeedMore → stands ≡ true → Carries stands waiting stream messages
+    → Carries stands waiting (with_nul stream) messages
+nul_carries {waiting = waiting} {messages = messages} alone stream begun needs on carries =
+    let put_in : 0 ∷ coming stream ≡ coming (with_nul stream) = sym (coming_of_nul stream begun) in
+    carries_spoiled (subst (λ (bytes : List ℕ). Spoiled waiting bytes) put_in (puts_a_nul waiting (coming stream) needs))
+    (subst (λ (bytes : List ℕ). Hides (waiting ++ bytes) messages) put_in (hides_nul waiting (coming stream) (hides_carried alone on carries)))
 
 -- a side of a link that stands is open, and what waits there comes to no message
 pub spoil_needs : (machine : ℕ) (side : Side) (t : Trace) (s : LineState) → Stands t s → AreWaiting s → CanSpoil machine side s → answer_of (waiting_at side (node_at s machine).lane) ≡ NeedMore
@@ -244,25 +255,25 @@ machine_of Exit link = link
 machine_of Entry link = link + 1
 
 -- what flows to a side of it is spoiled, and what flows the other way is as it was
-nulled_carries : (side : Side) (link : ℕ) (t : Trace) (s : LineState) → Carried t s link → IsWholeLink (link_at link s.world) → (link_at link s.world).stands ≡ true → answer_of (waiting_at side (node_at s (machine_of side link)).lane) ≡ NeedMore
+nulled_carries : SaysAlone → (side : Side) (link : ℕ) (t : Trace) (s : LineState) → Carried t s link → IsWholeLink (link_at link s.world) → (link_at link s.world).stands ≡ true → answer_of (waiting_at side (node_at s (machine_of side link)).lane) ≡ NeedMore
     → Carried t (linked link (nulled (end_of side) (link_at link s.world)) s) link
-nulled_carries Exit link t s c whole stands needs =
+nulled_carries alone Exit link t s c whole stands needs =
     let parts : LinkParts = nulled Upstream (link_at link s.world) in
     let s2 : LineState = linked link parts s in
     let is : link_at link s2.world ≡ parts = written_where link parts s stands in
     let bytes : (node_at s2 link).lane.exit_bytes ≡ (node_at s link).lane.exit_bytes = ap (λ (n : NodeState). n.lane.exit_bytes) (same_node s s2 refl link) in
     record {
-      up = carries_same (ap (λ (l : LinkParts). l.stands) is) bytes (ap (λ (l : LinkParts). l.flows.to_upstream) is) refl (nul_carries (link_at link s.world).flows.to_upstream whole.begun.upstream needs);
+      up = carries_same (ap (λ (l : LinkParts). l.stands) is) bytes (ap (λ (l : LinkParts). l.flows.to_upstream) is) refl (nul_carries alone (link_at link s.world).flows.to_upstream whole.begun.upstream needs stands c.up);
       down = carries_same (ap (λ (l : LinkParts). l.stands) is) (ap (λ (n : NodeState). n.lane.entry_bytes) (same_node s s2 refl (link + 1))) (ap (λ (l : LinkParts). l.flows.to_downstream) is) refl c.down;
     }
-nulled_carries Entry link t s c whole stands needs =
+nulled_carries alone Entry link t s c whole stands needs =
     let parts : LinkParts = nulled Downstream (link_at link s.world) in
     let s2 : LineState = linked link parts s in
     let is : link_at link s2.world ≡ parts = written_where link parts s stands in
     let bytes : (node_at s2 (link + 1)).lane.entry_bytes ≡ (node_at s (link + 1)).lane.entry_bytes = ap (λ (n : NodeState). n.lane.entry_bytes) (same_node s s2 refl (link + 1)) in
     record {
       up = carries_same (ap (λ (l : LinkParts). l.stands) is) (ap (λ (n : NodeState). n.lane.exit_bytes) (same_node s s2 refl link)) (ap (λ (l : LinkParts). l.flows.to_upstream) is) refl c.up;
-      down = carries_same (ap (λ (l : LinkParts). l.stands) is) bytes (ap (λ (l : LinkParts). l.flows.to_downstream) is) refl (nul_carries (link_at link s.world).flows.to_downstream whole.begun.downstream needs);
+      down = carries_same (ap (λ (l : LinkParts). l.stands) is) bytes (ap (λ (l : LinkParts). l.flows.to_downstream) is) refl (nul_carries alone (link_at link s.world).flows.to_downstream whole.begun.downstream needs stands c.down);
     }
 
 -- the machine at that side of the link
@@ -270,8 +281,8 @@ at_side : (machine : ℕ) (side : Side) (s : LineState) → has_neighbour machin
 at_side machine Exit s there = refl
 at_side machine Entry s there = let behind : 1 < machine = ltb-true 1 machine there in omega arith
 
-nulled_bears : (machine : ℕ) (side : Side) (t : Trace) (s : LineState) → Stands t s → AreWaiting s → CanSpoil machine side s → Bears t (linked (link_of machine side) (nulled (end_of side) (link_at (link_of machine side) s.world)) s)
-nulled_bears machine side t s st waits can =
+nulled_bears : SaysAlone → (machine : ℕ) (side : Side) (t : Trace) (s : LineState) → Stands t s → AreWaiting s → CanSpoil machine side s → Bears t (linked (link_of machine side) (nulled (end_of side) (link_at (link_of machine side) s.world)) s)
+nulled_bears alone machine side t s st waits can =
     let link : ℕ = link_of machine side in
     let parts : LinkParts = nulled (end_of side) (link_at link s.world) in
     let s2 : LineState = linked link parts s in
@@ -280,12 +291,12 @@ nulled_bears machine side t s st waits can =
     subst (λ (n : ℕ). answer_of (waiting_at side (node_at s n).lane) ≡ NeedMore) (sym (at_side machine side s can.neighbour)) (spoil_needs machine side t s st waits can) in
     bears_by link parts t t s st (λ k apart. record { ghost = refl; up = refl; down = refl; gone = refl }) (λ k. refl) (λ k. refl) (λ k none. none) (λ k none. none)
     (subst (λ (b : Between). Neighbours (stand_of s link) b (stand_of s (link + 1))) (sym is) (st.keeps.neighbours.at link))
-    (λ has. nulled_carries side link t s (st.carried link has) (st.links link) can.stands needs)
+    (λ has. nulled_carries alone side link t s (st.carried link has) (st.links link) can.stands needs)
 
 -- its trace is the same, or that of the link cut, where too much was on its way
-pub spoil_goes_on : (machine : ℕ) (side : Side) (t : Trace) (s : LineState) → Stands t s → AreWaiting s → may_spoil machine side s ≡ may_do
+pub spoil_goes_on : SaysAlone → (machine : ℕ) (side : Side) (t : Trace) (s : LineState) → Stands t s → AreWaiting s → may_spoil machine side s ≡ may_do
     → (t2 : Trace) × ((t2 ≡ t) ⊎ (t2 ≡ cut_trace (link_of machine side) t)) × Bears t2 (spoiled machine side s)
-spoil_goes_on machine side t s st waits may = by (is_too_much (end_of side) (nulled (end_of side) parts)) refl
+spoil_goes_on alone machine side t s st waits may = by (is_too_much (end_of side) (nulled (end_of side) parts)) refl
   where
     link : ℕ
     link = link_of machine side
@@ -299,7 +310,7 @@ spoil_goes_on machine side t s st waits may = by (is_too_much (end_of side) (nul
         (cut_trace link t, inr refl, subst (λ (s2 : LineState). Bears (cut_trace link t) s2) (sym same) (cut_bears link t s st))
     by false is =
         let same : spoiled machine side s ≡ linked link (nulled (end_of side) parts) s = ap (λ (l : LinkParts). linked link l s) (spoil_parts (end_of side) parts false is) in
-        (t, inl refl, subst (λ (s2 : LineState). Bears t s2) (sym same) (nulled_bears machine side t s st waits (can_spoil machine side s may)))
+        (t, inl refl, subst (λ (s2 : LineState). Bears t s2) (sym same) (nulled_bears alone machine side t s st waits (can_spoil machine side s may)))
 
-pub spoil_bears : (machine : ℕ) (side : Side) (t : Trace) (s : LineState) → Stands t s → AreWaiting s → may_spoil machine side s ≡ may_do → (t2 : Trace) × Bears t2 (spoiled machine side s)
-spoil_bears machine side t s st waits may = let then = spoil_goes_on machine side t s st waits may in (then.0, then.2)
+pub spoil_bears : SaysAlone → (machine : ℕ) (side : Side) (t : Trace) (s : LineState) → Stands t s → AreWaiting s → may_spoil machine side s ≡ may_do → (t2 : Trace) × Bears t2 (spoiled machine side s)
+spoil_bears alone machine side t s st waits may = let then = spoil_goes_on alone machine side t s st waits may in (then.0, then.2)

@@ -1,6 +1,7 @@
 -- The bytes on the links of a line, and the messages that they are.
-use Rattle.std.specs.Prelude.{Bool, List, [], false, ℕ, ◌+◌, ◌≡◌, ◌≤◌}
+use Rattle.std.specs.Prelude.{Bool, List, Some, [], false, filter, nat_lt, ℕ, ◌++◌, ◌+◌, ◌≡◌, ◌≤◌}
 use Rattle.line_base.specs.Text.{IsText}
+use Rattle.hermes_stream.specs.Frames.{frames_of}
 use Rattle.hermes_horizontal.specs.declared.message.Horizontal.{Horizontal}
 use Rattle.hermes_horizontal.specs.declared.message.Message.{Message}
 use Rattle.line_link.specs.Flow.{Stream, coming}
@@ -14,15 +15,27 @@ use Rattle.line_step.specs.State.{LineState}
 use Rattle.line_step.specs.World.{link_at}
 use Rattle.one_standing.specs.Relation.{Between, Stand}
 
+-- bytes without the NULs among them: what was sent, of a text that was spoiled
+abbrev pub without_nuls : List ℕ → List ℕ
+without_nuls bytes = filter (λ (byte : ℕ). nat_lt 0 byte) bytes
+
+-- without the NULs that were put in, the bytes are the texts of fit messages, whole, which say this
+pub record Hides (bytes : List ℕ) (messages : List Horizontal) : Type 0 where
+  pub said : List Message
+  pub fit : AreFit said
+  pub are : messages ≡ bodies said
+  pub frames : frames_of (without_nuls bytes)
+      ≡ record { messages = texts_of said; rest = Some [] }
+
 -- what flows in one direction of a link that stands or not, to a side at which these bytes wait:
--- the texts of fit messages, whole; or there is a NUL in the next of them; or nothing will come
--- any more, since the link was cut or the side closed
+-- the texts of fit messages, whole; or there is a NUL in the next of them, and without the NULs they
+-- are such texts; or nothing will come any more, since the link was cut or the side closed
 pub data Carries (stands : Bool) (waiting : List ℕ) (stream : Stream) : List Horizontal
     → Type 0 where
   carries_whole : (said : List Message) → AreFit said
       → Flows waiting (coming stream) (texts_of said) → Carries stands waiting stream (bodies said)
   carries_spoiled : {messages : List Horizontal} → Spoiled waiting (coming stream)
-      → Carries stands waiting stream messages
+      → Hides (waiting ++ coming stream) messages → Carries stands waiting stream messages
   carries_over : stands ≡ false → coming stream ≡ [] → Carries stands waiting stream []
 
 -- what nobody keeps of a line: of each link the ghost of its handover, the messages that are sent

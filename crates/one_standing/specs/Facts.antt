@@ -1,34 +1,37 @@
 -- THE CUSTODY FACTS: where a board lies, and which machine's halves hold its record.
-use Rattle.std.specs.Prelude.{Bool, List, None, Option, Some, [], length, map, take, true, false, ℕ, ℤ, ◌++◌, ◌+◌, ◌∷◌, ◌≡◌, ◌≤◌, if◌then◌else◌}
+use Rattle.std.specs.Prelude.{Bool, List, None, Option, Some, [], length, map, not, take, true, false, ℕ, ◌++◌, ◌+◌, ◌∷◌, ◌||◌, ◌≡◌, ◌≤◌, if◌then◌else◌}
 use Rattle.std.specs.List.{AllByRecursion, list_any}
 use Rattle.line_base.specs.declared.states.SensorEvent.{SensorEvent}
 use Rattle.line_base.specs.declared.states.SensorEvent.TheVariants as event
 use Rattle.line_base.specs.declared.states.Side.TheVariants.{Entry, Exit}
 use Rattle.line_base.specs.declared.states.Transfer.{Transfer}
 use Rattle.board_record.specs.declared.record.Record.{Record}
+use Rattle.hermes_horizontal.specs.Spelling.{Spells}
+use Rattle.hermes_horizontal.specs.declared.message.Horizontal.{Horizontal}
 use Rattle.hermes_horizontal.specs.declared.message.Horizontal.TheVariants as bodies
 use Rattle.hermes_horizontal.specs.declared.message.Message.{Message}
 use Rattle.hermes_horizontal.specs.declared.message.Service.{Service}
 use Rattle.hermes_stream.specs.Frames.{frames_of}
 use Rattle.line_link.specs.Flow.{coming}
+use Rattle.line_link.specs.Link.{LinkParts}
 use Rattle.line_world.specs.FloorPlan.{gap_at, has_id, machine_at}
 use Rattle.line_world.specs.declared.board.Board.{Board}
 use Rattle.line_world.specs.declared.gap.Gap.TheVariants as gaps
 use Rattle.handover_out.specs.State.{board_of_phase as held_out}
 use Rattle.handover_in.specs.State.{board_of_phase as held_in}
 use Rattle.node_core.specs.Sides.{is_open}
-use Rattle.node_core.specs.Words.{AreFirst}
-use Rattle.node_core.specs.declared.word.Word.TheVariants as words
 use Rattle.standings.specs.Marks.{Owned, is_held}
 use Rattle.custody.specs.Facts.{Has}
 use Rattle.custody.specs.Words.{events_at}
 use Rattle.machine_custody.specs.Good.{Lies}
+use Rattle.line_step.specs.Reasons.{is_empty}
 use Rattle.line_step.specs.Lies.{has_lie}
 use Rattle.line_step.specs.Numbered.{node_at}
 use Rattle.line_step.specs.Runs.{IsRun, Point, IsShort}
 use Rattle.line_step.specs.State.{LineState, no_line, owned_by}
 use Rattle.line_step.specs.World.{link_at}
 use Rattle.line_step.specs.Tracks.{TrackLine}
+use Rattle.one_standing.specs.Carried.{without_nuls}
 use Rattle.one_standing.specs.Standing.{IsFitTrack, is_held_at}
 
 -- what a machine's intake holds
@@ -81,22 +84,30 @@ abbrev pub to_entry : LineState → ℕ → List ℕ
 to_entry s gap =
     (node_at s (gap + 1)).lane.entry_bytes ++ coming (link_at gap s.world).flows.to_downstream
 
--- bytes mean these messages first, whatever follows them. Behind a spoiled text, which means none,
--- nothing is said of them
-abbrev pub AreComing : List ℕ → List Message → Type 0
-AreComing bytes messages =
-    AreFirst (frames_of bytes).messages (frames_of bytes).rest
-    (map (λ (message : Message). words.Says message) messages)
+-- one of these texts spells the message
+pub data IsSpelledIn (message : Message) : List (List ℕ) → Type 0 where
+  spelled_first : {text : List ℕ} {others : List (List ℕ)} → Spells text message
+      → IsSpelledIn message (text ∷ others)
+  spelled_later : {text : List ℕ} {others : List (List ℕ)} → IsSpelledIn message others
+      → IsSpelledIn message (text ∷ others)
 
--- one of them tells that the transport of a board has ended upstream, or describes the machine
--- there
-pub data LetsGo : List Message → Type 0 where
-  lets_end : {stamp : Option ℤ} {state : Transfer} {id : ℕ} {others : List Message}
-      → LetsGo (record { stamp = stamp; body = bodies.TransportFinished state id } ∷ others)
-  lets_description : {stamp : Option ℤ} {service : Service} {others : List Message}
-      → LetsGo (record { stamp = stamp; body = bodies.ServiceDescription service } ∷ others)
-  lets_later : {message : Message} {others : List Message} → LetsGo others
-      → LetsGo (message ∷ others)
+-- the link stands, or bytes are on their way to its entry still
+abbrev pub comes_still : LinkParts → Bool
+comes_still link = link.stands || not (is_empty (coming link.flows.to_downstream))
+
+-- a message is on its way to an entry: a text among the bytes spells it, whatever text before it
+-- was spoiled. Or its own text was spoiled, and comes still: without the NULs that were put in, a
+-- text among the bytes spells it
+pub data IsOnItsWay (s : LineState) (gap : ℕ) (message : Message) : Type 0 where
+  way_whole : IsSpelledIn message (frames_of (to_entry s gap)).messages → IsOnItsWay s gap message
+  way_spoiled : comes_still (link_at gap s.world) ≡ true
+      → IsSpelledIn message (frames_of (without_nuls (to_entry s gap))).messages
+      → IsOnItsWay s gap message
+
+-- it tells that the transport of a board has ended upstream, or describes the machine there
+pub data LetsGo : Horizontal → Type 0 where
+  lets_end : {state : Transfer} {id : ℕ} → LetsGo (bodies.TransportFinished state id)
+  lets_description : {service : Service} → LetsGo (bodies.ServiceDescription service)
 
 -- the facts of a state
 pub record HasCustodyFacts (s : LineState) : Type 0 where
@@ -115,10 +126,10 @@ pub record HasCustodyFacts (s : LineState) : Type 0 where
   pub taken_unread : (gap id : ℕ) → is_held_at s gap id ≡ true → IsNowhere s id
       → IsUnread s gap event.Taken
   -- while the end of a transport, or the description of the machine upstream, is on its way to an
-  -- entry that has its connection still, the outlet holds nothing
-  pub free : (gap : ℕ) (messages : List Message)
-      → is_open Entry (node_at s (gap + 1)).lane.body ≡ true → AreComing (to_entry s gap) messages
-      → LetsGo messages → held_out (node_at s gap).lane.body.outlet.phase ≡ None
+  -- entry that has its connection still, whole or spoiled, the outlet holds nothing
+  pub free : (gap : ℕ) (message : Message)
+      → is_open Entry (node_at s (gap + 1)).lane.body ≡ true → IsOnItsWay s gap message
+      → LetsGo message.body → held_out (node_at s gap).lane.body.outlet.phase ≡ None
   -- the boards of a list stand in the order of the machine's records
   pub order : (machine : ℕ)
       → AreInOrder (owned_by (node_at s machine)) (machine_at s.world.floor machine).boards

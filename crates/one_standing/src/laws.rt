@@ -27,8 +27,9 @@ pub fn one_standing_after_each_line()
 /// The custody facts, after the same lines: whose half holds the record of a board that lies begun
 /// in a gap, or across it; what the sensor of an exit saw unread while its outlet holds a board
 /// that lies elsewhere or nowhere; that the outlet holds nothing while the end of a transport, or
-/// the description of the machine upstream, is on its way; that the boards of a list stand in the
-/// order of the machine's records; and that two halves of a gap which hold a record hold one.
+/// the description of the machine upstream, is on its way, whole or spoiled; that the boards of a
+/// list stand in the order of the machine's records; and that two halves of a gap which hold a
+/// record hold one.
 pub fn the_custody_facts_hold_after_each_line()
     ensures { CustodyFacts }
 {

@@ -387,7 +387,7 @@ carries_down : {id : ℕ} {passes stands : Bool} {waiting : List ℕ} {stream : 
     {said : List Horizontal} → Carries stands waiting stream said
     → OpenAll (IsOther id) passes (down_words said) → Down id passes stands waiting (coming stream)
 carries_down (carries_whole said fit flows) offers = flow_whole said fit offers flows
-carries_down (carries_spoiled spoiled) offers = flow_spoiled spoiled
+carries_down (carries_spoiled spoiled hides) offers = flow_spoiled spoiled
 carries_down (carries_over off none) offers = flow_over off none
 
 pub held_free : (t : Trace) (s : LineState) (k id : ℕ) → Stands t s

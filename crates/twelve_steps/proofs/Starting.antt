@@ -120,7 +120,7 @@ really alone message text waiting stream on texts is whole (carries_whole sent g
       rest = first.0;
       said_is = first.1;
     }
-really alone message text waiting stream on texts is whole (carries_spoiled spoiled) =
+really alone message text waiting stream on texts is whole (carries_spoiled spoiled hides) =
     let frames : frames_of (waiting ++ coming stream) ≡ record { messages = text ∷ []; rest = Some [] } = ap frames_of whole ∙ is.one.frames in
     absurd (none_oldest (alone.wrong waiting (coming stream) [] [] false (Says message ∷ []) [] (subst (λ (bs : List ℕ). Spoiled waiting bs) (sym (append-nil (coming stream))) spoiled) (one_word message text waiting (coming stream) frames is)).oldest)
 really alone message text waiting stream on texts is whole (carries_over off none) = absurd (let no : true ≡ false = sym on ∙ off in cc)
