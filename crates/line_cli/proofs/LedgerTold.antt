@@ -17,6 +17,7 @@ use Rattle.report_ledger.specs.Fronts.{FrontsTellLedgers}
 use Rattle.report_ledger.specs.Ledgers.{AreUnnumbered, ReportTellsLedger, TellsLedger, honest}
 use Rattle.report_ledger.specs.Standings.{ReportTellsStandings}
 use Rattle.report_ledger.specs.ReportLines.{line_of, lines_in}
+use Rattle.report_ledger.proofs.Fronts.{first_fit}
 use Rattle.report_ledger.proofs.Lines.{line_read}
 use Rattle.line_cli.specs.Deeds.{EachFrontTellsItsLedger, EachReportTellsItsLedger, EachReportTellsItsStandings, EachReportTellsItsStarts}
 use Rattle.line_cli.specs.Report.{ending}
@@ -92,14 +93,9 @@ reports_start starts bytes points gap some run proper =
 
 -- ---- a front
 
--- the first lines of a script are fit, as all of them are
-fit_first : (lines others : List ScriptLine) → AllByRecursion IsFitLine (lines ++ others) → AllByRecursion IsFitLine lines
-fit_first [] others fit = tt
-fit_first (line ∷ lines) others fit = (fit.0, fit_first lines others fit.1)
-
 pub fronts_tell : FrontsTellLedgers → EachFrontTellsItsLedger
 fronts_tell tells bytes text first =
     let fit = scripts_are_fit bytes in
     let P : List ScriptLine → Type 0 = AllByRecursion IsFitLine in
     let few : length first.lines ≤ 1000000 = omega (arith, fit.few, ap length first.all, length-append first.lines first.others) in
-    tells first.lines first.points first.ending text first.rest (fit_first first.lines first.others (subst P first.all fit.fit)) few first.run first.proper first.last first.front
+    tells first.lines first.points first.ending text first.rest (first_fit first.lines first.others (subst P first.all fit.fit)) few first.run first.proper first.last first.front

@@ -52,7 +52,8 @@ pub record IsToldFirst (bytes text : List ℕ) : Type 0 where
   pub front : text ++ rest ≡ told_text 1 points ++ ending
 
 -- and whoever has such a front alone, as a fault may leave it, reads off its lines before those of
--- its last number the ledger and the standings behind the first of those lines of the script
+-- its last number the ledger and the standings behind the lines of the script with smaller ones
 abbrev pub EachFrontTellsItsLedger : Type 0
 EachFrontTellsItsLedger =
-    (bytes text : List ℕ) → (first : IsToldFirst bytes text) → FrontTells text first.points
+    (bytes text : List ℕ) → (first : IsToldFirst bytes text)
+    → FrontTells text first.lines first.points

@@ -1,20 +1,23 @@
 -- Of a front of a report the lines before those of its last number are the whole report of the first lines of its script.
-use Rattle.std.proofs.Common.{◌≡◌, ◌≤◌, ◌<◌, ◌∙◌, sym, ap, refl, subst, ℕ, ◌+◌, ◌==◌, ◌&&◌, Bool, true, false, List, [], ◌∷◌, ◌++◌, Option, Some, None, append_assoc, append-nil, arith, if◌then◌else◌, length}
+use Rattle.std.proofs.Common.{◌≡◌, ◌≤◌, ◌<◌, ◌∙◌, sym, ap, refl, subst, ℕ, ◌+◌, ◌==◌, ◌&&◌, Bool, true, false, List, [], ◌∷◌, ◌++◌, Option, IfSome, Some, None, append_assoc, append-nil, arith, if◌then◌else◌, length}
 use Rattle.std.proofs.lemmas.Bool.{eq-eqb, ne_eqb}
 use Rattle.std.specs.List.{AllByRecursion}
 use Rattle.line_report.specs.Texts.{happening_text}
 use Rattle.line_report.specs.declared.happening.Happening.{Happening}
 use Rattle.line_script.specs.declared.line.ScriptLine.{ScriptLine}
-use Rattle.line_step.specs.Runs.{IsRun, Point, state_behind, told_text}
+use Rattle.line_step.specs.Parts.{IsPlay, IsScriptRun, Part, count_behind, parts_of, script_parts}
+use Rattle.line_step.specs.Runs.{Point, all_told, state_behind, told_text}
 use Rattle.line_step.specs.State.{LineState, no_line}
+use Rattle.line_step.proofs.Playing.{EndsLast, FirstLine, first-line, parts-end, play-append, script-short}
 use Rattle.one_standing.specs.Standing.{IsFitLine}
-use Rattle.report_ledger.specs.Fronts.{FrontsTellLedgers, LinesTell, are_all, is_same, told_whole}
+use Rattle.report_ledger.specs.Fronts.{FrontsTellLedgers, LinesTell, are_all, is_same, last_number, told_whole}
 use Rattle.report_ledger.specs.Ledgers.{AreUnnumbered, ReportTellsLedger, TellsLedger, honest}
 use Rattle.report_ledger.specs.Proper.{AreProperPoints}
 use Rattle.report_ledger.specs.ReportLines.{ReportLine, line_of, lines_behind, lines_in}
 use Rattle.report_ledger.specs.Standings.{ReportTellsStandings, TellsStandings}
-use Rattle.report_ledger.proofs.Ledgered.{points_few}
+use Rattle.report_ledger.proofs.Alone.{script_alone}
 use Rattle.report_ledger.proofs.Lines.{line_with, lines_told, run_lines, run_read}
+use Rattle.report_ledger.proofs.Vouched.{AreAlone}
 
 -- ---- the lines of a front are the first of the whole
 
@@ -104,11 +107,14 @@ told_other number next (happening ∷ told) later line rest less is behind =
     let first : line_with (Some next) (happening_text happening) ≡ line = cc in
     ap (λ (x : ReportLine). is_same (Some number) x.number) (sym first) ∙ ne_eqb number next (λ same. absurd (omega (arith, same, less)))
 
-later_other : (number next : ℕ) (points : List Point) (tail : List ReportLine) (line : ReportLine) (rest : List ReportLine) → number < next → AreUnnumbered tail → run_lines next points ++ tail ≡ line ∷ rest → is_same (Some number) line.number ≡ false
-later_other number next [] tail line rest less none is = tail_other number tail line rest none is
-later_other number next (point ∷ points) tail line rest less none is =
-    told_other number next point.told (run_lines (next + 1) points ++ tail) line rest less (sym (append_assoc (lines_told next point.told) (run_lines (next + 1) points) tail) ∙ is)
-    (λ behind. later_other number (next + 1) points tail line rest (omega (arith, less)) none behind)
+later_other : (number last : ℕ) (s : LineState) (points : List Point) (tail : List ReportLine) (line : ReportLine) (rest : List ReportLine) → number < s.lines + 1 → AreAlone last s points → AreUnnumbered tail → run_lines (s.lines + 1) points ++ tail ≡ line ∷ rest
+    → is_same (Some number) line.number ≡ false
+later_other number last s [] tail line rest less alone none is = tail_other number tail line rest none is
+later_other number last s (point ∷ points) tail line rest less alone none is =
+    let rises = alone.0.rises in
+    let later = run_lines (point.after.lines + 1) points in
+    told_other number (s.lines + 1) point.told (later ++ tail) line rest less (sym (append_assoc (lines_told (s.lines + 1) point.told) later tail) ∙ is)
+    (λ behind. later_other number (s.lines + 1) point.after points tail line rest (omega (arith, less, rises)) alone.1 none behind)
 
 not_all : (number : ℕ) (told : List Happening) (line : ReportLine) (l : List ReportLine) → is_same (Some number) line.number ≡ false → are_all (Some number) (lines_told number told ++ line ∷ l) ≡ false
 not_all number [] line l other = ap (λ (b : Bool). b && are_all (Some number) l) other
@@ -122,52 +128,155 @@ kept number (happening ∷ told) line l other =
     ap (λ (b : Bool). if b then [] else first ∷ told_whole (lines_told number told ++ line ∷ l)) (not_all number told line l other)
     ∙ ap (λ (k : List ReportLine). first ∷ k) (kept number told line l other)
 
--- ---- the points that are told whole
+-- ---- the last number
 
-record CutAt (number : ℕ) (points : List Point) (l : List ReportLine) : Type 0 where
+told_last : (number : ℕ) (told : List Happening) (l rest : List ReportLine) → lines_told number told ≡ l ++ rest → IfSome (last_number l) (λ n. n ≡ number)
+told_last number told [] rest is = tt
+told_last number [] (line ∷ l) rest is = absurd cc
+told_last number (happening ∷ told) (line ∷ []) rest is =
+    let first : line_with (Some number) (happening_text happening) ≡ line = cc in
+    subst (λ (x : ReportLine). IfSome x.number (λ n. n ≡ number)) first refl
+told_last number (happening ∷ told) (line ∷ next ∷ l) rest is =
+    let later : lines_told number told ≡ next ∷ (l ++ rest) = cc in
+    told_last number told (next ∷ l) rest later
+
+tail_last : (number : ℕ) (l more tail : List ReportLine) → AreUnnumbered tail → tail ≡ l ++ more → IfSome (last_number l) (λ n. n ≡ number)
+tail_last number [] more tail none is = tt
+tail_last number (line ∷ l) more [] none is = absurd cc
+tail_last number (line ∷ []) more (last ∷ tail) none is =
+    let first : last ≡ line = cc in
+    subst (λ (n : Option ℕ). IfSome n (λ n. n ≡ number)) (sym none.0 ∙ ap (λ (x : ReportLine). x.number) first) tt
+tail_last number (line ∷ next ∷ l) more (last ∷ tail) none is =
+    let later : tail ≡ next ∷ (l ++ more) = cc in
+    tail_last number (next ∷ l) more tail none.1 later
+
+last_behind : (a : List ReportLine) (line : ReportLine) (l : List ReportLine) → last_number (a ++ line ∷ l) ≡ last_number (line ∷ l)
+last_behind [] line l = refl
+last_behind (one ∷ []) line l = refl
+last_behind (one ∷ other ∷ a) line l = last_behind (other ∷ a) line l
+
+-- ---- a line of a script is told under its number alone
+
+told_both : (number : ℕ) (a b : List Happening) → lines_told number (a ++ b) ≡ lines_told number a ++ lines_told number b
+told_both number [] b = refl
+told_both number (happening ∷ a) b = ap (λ (l : List ReportLine). line_with (Some number) (happening_text happening) ∷ l) (told_both number a b)
+
+play_told : (s : LineState) (parts : List Part) (points : List Point) → EndsLast parts → IsPlay s parts points → run_lines (s.lines + 1) points ≡ lines_told (s.lines + 1) (all_told points)
+play_told s [] points ends play = absurd ends
+play_told s (part ∷ []) [] ends play = absurd play
+play_told s (part ∷ []) (point ∷ []) ends play = append-nil (lines_told (s.lines + 1) point.told) ∙ ap (lines_told (s.lines + 1)) (sym (append-nil point.told))
+play_told s (part ∷ []) (point ∷ other ∷ points) ends play = absurd play.1
+play_told s (part ∷ next ∷ parts) [] ends play = absurd play
+play_told s (part ∷ next ∷ parts) (point ∷ points) ends play =
+    let same : point.after.lines ≡ s.lines = play.0.counted ∙ ap (λ (b : Bool). count_behind b s.lines) ends.0 in
+    let first = lines_told (s.lines + 1) point.told in
+    ap (λ (l : List ReportLine). first ++ l) (play_told point.after (next ∷ parts) points ends.1 play.1 ∙ ap (λ (n : ℕ). lines_told (n + 1) (all_told points)) same)
+    ∙ sym (told_both (s.lines + 1) point.told (all_told points))
+
+lines_both : (s : LineState) (a b : List Point) → run_lines (s.lines + 1) (a ++ b) ≡ run_lines (s.lines + 1) a ++ run_lines ((state_behind s a).lines + 1) b
+lines_both s [] b = refl
+lines_both s (point ∷ a) b =
+    let first = lines_told (s.lines + 1) point.told in
+    ap (λ (l : List ReportLine). first ++ l) (lines_both point.after a b)
+    ∙ sym (append_assoc first (run_lines (point.after.lines + 1) a) (run_lines ((state_behind point.after a).lines + 1) b))
+
+-- the points of one line of a script, and those behind it
+line_both : (line : ScriptLine) (s : LineState) (earlier later : List Point) → IsPlay s (parts_of line) earlier → run_lines (s.lines + 1) (earlier ++ later) ≡ lines_told (s.lines + 1) (all_told earlier) ++ run_lines ((state_behind s earlier).lines + 1) later
+line_both line s earlier later play =
+    let others = run_lines ((state_behind s earlier).lines + 1) later in
+    lines_both s earlier later ∙ ap (λ (l : List ReportLine). l ++ others) (play_told s (parts_of line) earlier (parts-end line) play)
+
+-- ---- the lines of a script that are told whole
+
+record CutAt (s : LineState) (asked : List ScriptLine) (points : List Point) (l : List ReportLine) : Type 0 where
+  lines : List ScriptLine
+  others : List ScriptLine
+  first : asked ≡ lines ++ others
+  number : IfSome (last_number l) (λ number. number ≡ length lines + (s.lines + 1))
   done : List Point
   later : List Point
   parts : points ≡ done ++ later
-  whole : told_whole l ≡ run_lines number done
+  run : IsScriptRun s lines done
+  whole : told_whole l ≡ run_lines (s.lines + 1) done
 
-cut_by : (number : ℕ) (point : Point) (points : List Point) (tail l more : List ReportLine) → AreUnnumbered tail → Split (lines_told number point.told) (run_lines (number + 1) points ++ tail) l more
-    → ((behind : List ReportLine) → run_lines (number + 1) points ++ tail ≡ behind ++ more → CutAt (number + 1) points behind) → CutAt number (point ∷ points) l
-cut_by number point points tail l more none (within rest is) go = record { done = []; later = point ∷ points; parts = refl; whole = none_whole number point.told l rest is }
-cut_by number point points tail l more none (beyond [] is left) go =
-    let told = lines_told number point.told in
-    record { done = []; later = point ∷ points; parts = refl; whole = none_whole number point.told l [] (sym (append-nil told) ∙ sym is ∙ sym (append-nil l)) }
-cut_by number point points tail l more none (beyond (line ∷ behind) is left) go =
-    let told = lines_told number point.told in
-    let next = go (line ∷ behind) left in
-    let other = later_other number (number + 1) points tail line (behind ++ more) (omega arith) none left in
+cut_none : (s : LineState) (asked : List ScriptLine) (points : List Point) (l : List ReportLine) → told_whole l ≡ [] → IfSome (last_number l) (λ n. n ≡ s.lines + 1) → CutAt s asked points l
+cut_none s asked points l whole number =
+    let none : List ScriptLine = [] in
+    let same : s.lines + 1 ≡ length none + (s.lines + 1) = omega arith in
     record {
-      done = point ∷ next.done;
-      later = next.later;
-      parts = ap (λ (ps : List Point). point ∷ ps) next.parts;
-      whole = ap told_whole is ∙ kept number point.told line behind other ∙ ap (λ (k : List ReportLine). told ++ k) next.whole;
+      lines = none;
+      others = asked;
+      first = refl;
+      number = subst (λ (k : ℕ). IfSome (last_number l) (λ n. n ≡ k)) same number;
+      done = [];
+      later = points;
+      parts = refl;
+      run = tt;
+      whole = whole;
     }
 
-cut : (number : ℕ) (points : List Point) (tail l more : List ReportLine) → AreUnnumbered tail → run_lines number points ++ tail ≡ l ++ more → CutAt number points l
-cut number [] tail l more none is = record { done = []; later = []; parts = refl; whole = none_left l more tail none is }
-cut number (point ∷ points) tail l more none is =
-    let told = lines_told number point.told in
-    let later = run_lines (number + 1) points ++ tail in
-    cut_by number point points tail l more none (split told later l more (sym (append_assoc told (run_lines (number + 1) points) tail) ∙ is)) (λ behind left. cut (number + 1) points tail behind more none left)
+cut_more : (line : ScriptLine) (asked : List ScriptLine) (s : LineState) (points : List Point) (next : ReportLine) (behind l : List ReportLine) → (one : FirstLine line asked s points) → l ≡ lines_told (s.lines + 1) (all_told one.earlier) ++ next ∷ behind
+    → is_same (Some (s.lines + 1)) next.number ≡ false → CutAt (state_behind s one.earlier) asked one.later (next ∷ behind) → CutAt s (line ∷ asked) points l
+cut_more line asked s points next behind l one is other more =
+    let told = all_told one.earlier in
+    let number = s.lines + 1 in
+    let counted = one.counted in
+    record {
+      lines = line ∷ more.lines;
+      others = more.others;
+      first = ap (λ (ls : List ScriptLine). line ∷ ls) more.first;
+      number =
+          subst (λ (o : Option ℕ). IfSome o (λ n. n ≡ length (line ∷ more.lines) + (s.lines + 1))) (sym (ap last_number is ∙ last_behind (lines_told number told) next behind))
+          (subst (λ (k : ℕ). IfSome (last_number (next ∷ behind)) (λ n. n ≡ k)) (omega (arith, counted)) more.number);
+      done = one.earlier ++ more.done;
+      later = more.later;
+      parts = one.is ∙ ap (λ (ps : List Point). one.earlier ++ ps) more.parts ∙ sym (append_assoc one.earlier more.done more.later);
+      run = play-append s (parts_of line) (script_parts more.lines) one.earlier more.done one.first more.run;
+      whole =
+          ap told_whole is ∙ kept number told next behind other ∙ ap (λ (k : List ReportLine). lines_told number told ++ k) more.whole
+          ∙ sym (line_both line s one.earlier more.done one.first);
+    }
 
--- ---- the first points are a run
+cut_by : (line : ScriptLine) (asked : List ScriptLine) (s : LineState) (points : List Point) (tail l more : List ReportLine) → AreUnnumbered tail → (one : FirstLine line asked s points)
+    → Split (lines_told (s.lines + 1) (all_told one.earlier)) (run_lines ((state_behind s one.earlier).lines + 1) one.later ++ tail) l more
+    → ((behind : List ReportLine) → run_lines ((state_behind s one.earlier).lines + 1) one.later ++ tail ≡ behind ++ more → CutAt (state_behind s one.earlier) asked one.later behind) → CutAt s (line ∷ asked) points l
+cut_by line asked s points tail l more none one (within rest is) go =
+    let told = all_told one.earlier in
+    cut_none s (line ∷ asked) points l (none_whole (s.lines + 1) told l rest is) (told_last (s.lines + 1) told l rest is)
+cut_by line asked s points tail l more none one (beyond [] is left) go =
+    let told = all_told one.earlier in
+    let same : lines_told (s.lines + 1) told ≡ l ++ [] = sym (append-nil (lines_told (s.lines + 1) told)) ∙ sym is ∙ sym (append-nil l) in
+    cut_none s (line ∷ asked) points l (none_whole (s.lines + 1) told l [] same) (told_last (s.lines + 1) told l [] same)
+cut_by line asked s points tail l more none one (beyond (next ∷ behind) is left) go =
+    let end = state_behind s one.earlier in
+    let counted = one.counted in
+    let alone = script_alone 0 end asked one.later (omega arith) one.others in
+    let other = later_other (s.lines + 1) 0 end one.later tail next (behind ++ more) (omega (arith, counted)) alone none left in
+    cut_more line asked s points next behind l one is other (go (next ∷ behind) left)
 
-record FirstRun (s : LineState) (asked : List ScriptLine) (done : List Point) : Type 0 where
-  lines : List ScriptLine
-  run : IsRun s lines done
-  fit : AllByRecursion IsFitLine lines
-  few : length lines ≤ length asked
+cut : (s : LineState) (asked : List ScriptLine) (points : List Point) (tail l more : List ReportLine) → AreUnnumbered tail → IsScriptRun s asked points → run_lines (s.lines + 1) points ++ tail ≡ l ++ more → CutAt s asked points l
+cut s [] [] tail l more none run is = cut_none s [] [] l (none_left l more tail none is) (tail_last (s.lines + 1) l more tail none is)
+cut s [] (point ∷ points) tail l more none run is = absurd run
+cut s (line ∷ asked) points tail l more none run is =
+    let one = first-line line asked s points run in
+    let end = state_behind s one.earlier in
+    let told = lines_told (s.lines + 1) (all_told one.earlier) in
+    let others = run_lines (end.lines + 1) one.later in
+    let apart : told ++ (others ++ tail) ≡ l ++ more =
+    sym (append_assoc told others tail) ∙ ap (λ (k : List ReportLine). k ++ tail) (sym (line_both line s one.earlier one.later one.first))
+    ∙ ap (λ (ps : List Point). run_lines (s.lines + 1) ps ++ tail) (sym one.is) ∙ is in
+    cut_by line asked s points tail l more none one (split told (others ++ tail) l more apart) (λ behind left. cut end asked one.later tail behind more none one.others left)
 
-first_run : (s : LineState) (asked : List ScriptLine) (done later : List Point) → AllByRecursion IsFitLine asked → IsRun s asked (done ++ later) → FirstRun s asked done
-first_run s asked [] later fit run = record { lines = []; run = tt; fit = tt; few = omega arith }
-first_run s [] (point ∷ done) later fit run = absurd run
-first_run s (line ∷ asked) (point ∷ done) later fit run =
-    let rest = first_run point.after asked done later fit.1 run.1 in
-    record { lines = line ∷ rest.lines; run = (run.0, rest.run); fit = (fit.0, rest.fit); few = omega (arith, rest.few) }
+-- ---- the first lines of a script
+
+-- they are fit, as all of them are
+pub first_fit : (lines others : List ScriptLine) → AllByRecursion IsFitLine (lines ++ others) → AllByRecursion IsFitLine lines
+first_fit [] others fit = tt
+first_fit (line ∷ lines) others fit = (fit.0, first_fit lines others fit.1)
+
+first_few : (lines others : List ScriptLine) → length lines ≤ length (lines ++ others)
+first_few [] others = omega arith
+first_few (line ∷ lines) others = let few = first_few lines others in omega (arith, few)
 
 first_proper : (done later : List Point) → AreProperPoints (done ++ later) → AreProperPoints done
 first_proper [] later proper = tt
@@ -180,25 +289,29 @@ lines_tell text s tells last = record { legal = tells.legal; marks = tells.marks
 
 pub fronts_tell : ReportTellsLedger → ReportTellsStandings → FrontsTellLedgers
 fronts_tell ledgers standings asked points ending text rest fit few run proper none is =
-    let many = points_few no_line asked points run in
-    let read = run_read 1 points ending (omega (arith, few, many)) proper in
+    let read = run_read no_line points ending (script-short no_line asked points run (omega (arith, few))) proper in
     let front = lines_front [] text rest in
-    let at = cut 1 points (lines_in ending) (lines_in text) front.more none (sym read ∙ ap lines_in (sym is) ∙ front.is) in
-    let P : List Point → Type 0 = λ ps. IsRun no_line asked ps in
-    let first = first_run no_line asked at.done at.later fit (subst P at.parts run) in
+    let at = cut no_line asked points (lines_in ending) (lines_in text) front.more none run (sym read ∙ ap lines_in (sym is) ∙ front.is) in
+    let suits = first_fit at.lines at.others (subst (AllByRecursion IsFitLine) at.first fit) in
     let fine = first_proper at.done at.later (subst AreProperPoints at.parts proper) in
-    let count = points_few no_line first.lines at.done first.run in
+    let fewer = first_few at.lines at.others in
+    let count : length asked ≡ length (at.lines ++ at.others) = ap (λ (ls : List ScriptLine). length ls) at.first in
+    let short : length at.lines ≤ 1000000 = omega (arith, few, fewer, count) in
     let told = told_text 1 at.done ++ [] in
     let end = state_behind no_line (honest at.done) in
-    let short : length first.lines ≤ 1000000 = omega (arith, few, first.few) in
-    let one = ledgers first.lines at.done [] first.fit short first.run fine tt in
-    let two = standings first.lines at.done [] first.fit short first.run fine tt in
+    let one = ledgers at.lines at.done [] suits short at.run fine tt in
+    let two = standings at.lines at.done [] suits short at.run fine tt in
     let same : told_whole (lines_in text) ≡ lines_in told =
-    at.whole ∙ sym (append-nil (run_lines 1 at.done)) ∙ sym (run_read 1 at.done [] (omega (arith, short, count)) fine) in
+    at.whole ∙ sym (append-nil (run_lines 1 at.done)) ∙ sym (run_read no_line at.done [] (script-short no_line at.lines at.done at.run (omega (arith, short))) fine) in
     record {
+      lines = at.lines;
+      others = at.others;
+      first = at.first;
+      number = at.number;
       done = at.done;
       later = at.later;
       parts = at.parts;
+      run = at.run;
       whole = same ∙ ap lines_in (append-nil (told_text 1 at.done));
       tells = subst (λ (l : List ReportLine). LinesTell l end) (sym same) (lines_tell told end one two);
     }

@@ -1,12 +1,13 @@
 -- A FRONT OF A REPORT'S BYTES, cut anywhere, as a fault may leave one: of the line of the script of
 -- which it tells last, some lines may be lacking. Whoever leaves the lines of that number out has
 -- the whole report of the lines of the script before it, and so their ledger.
-use Rattle.std.specs.Prelude.{ℕ, ◌≡◌, ◌≤◌, ◌==◌, ◌&&◌, ◌++◌, Bool, true, false, List, [], ◌∷◌, Option, None, Some, if◌then◌else◌, length}
+use Rattle.std.specs.Prelude.{ℕ, ◌≡◌, ◌≤◌, ◌==◌, ◌&&◌, ◌+◌, ◌++◌, Bool, true, false, List, [], ◌∷◌, Option, None, IfSome, Some, if◌then◌else◌, length}
 use Rattle.std.specs.List.{AllByRecursion}
 use Rattle.line_script.specs.declared.line.ScriptLine.{ScriptLine}
 use Rattle.standings.specs.Ledger.{AreLegal, Ledger, empty_ledger, ledger_after_all, marks_in}
 use Rattle.standings.specs.Standing.{standing_of}
-use Rattle.line_step.specs.Runs.{IsRun, Point, state_behind, told_text}
+use Rattle.line_step.specs.Parts.{IsScriptRun}
+use Rattle.line_step.specs.Runs.{Point, state_behind, told_text}
 use Rattle.line_step.specs.State.{LineState, no_line}
 use Rattle.one_standing.specs.Replay.{IsLedgerOf, IsStandingTold}
 use Rattle.one_standing.specs.Standing.{IsFitLine}
@@ -49,19 +50,32 @@ pub record LinesTell (lines : List ReportLine) (s : LineState) : Type 0 where
   pub last : (id : ℕ) → standing_of (marks_in id (ledger_by lines).marks)
       ≡ standing_told id (vouched lines)
 
--- what a front tells before its last number is the whole report of the first of these points, up
--- to the first line that told what was not so, and it tells their ledger
-pub record FrontTells (text : List ℕ) (points : List Point) : Type 0 where
+-- the number of the last line, if it has one
+abbrev pub last_number : List ReportLine → Option ℕ
+last_number [] = None
+last_number (line ∷ []) = line.number
+last_number (line ∷ next ∷ lines) = last_number (next ∷ lines)
+
+-- what a front tells before its last number is the whole report of the first of these lines of a
+-- script, which are those with a smaller number: no line is told in part. Up to the first line that
+-- told what was not so it tells their ledger
+pub record FrontTells (text : List ℕ) (asked : List ScriptLine)
+    (points : List Point) : Type 0 where
+  pub lines : List ScriptLine
+  pub others : List ScriptLine
+  pub first : asked ≡ lines ++ others
+  pub number : IfSome (last_number (lines_in text)) (λ number. number ≡ length lines + 1)
   pub done : List Point
   pub later : List Point
   pub parts : points ≡ done ++ later
+  pub run : IsScriptRun no_line lines done
   pub whole : told_whole (lines_in text) ≡ lines_in (told_text 1 done)
   pub tells : LinesTell (told_whole (lines_in text)) (state_behind no_line (honest done))
 
--- THE LAW: each front of the report of a run, whatever last line stands behind it
+-- THE LAW: each front of the report of a script, whatever last line stands behind it
 abbrev pub FrontsTellLedgers : Type 0
 FrontsTellLedgers =
     (asked : List ScriptLine) (points : List Point) (ending text rest : List ℕ)
-    → AllByRecursion IsFitLine asked → length asked ≤ 1000000 → IsRun no_line asked points
+    → AllByRecursion IsFitLine asked → length asked ≤ 1000000 → IsScriptRun no_line asked points
     → AreProperPoints points → AreUnnumbered (lines_in ending)
-    → text ++ rest ≡ told_text 1 points ++ ending → FrontTells text points
+    → text ++ rest ≡ told_text 1 points ++ ending → FrontTells text asked points

@@ -33,8 +33,8 @@ pub fn a_report_tells_its_standings()
 }
 
 /// Of each front of such a report, cut anywhere, the lines before those of its last number are the
-/// whole report of the first lines of the script: so they tell the ledger and the standings behind
-/// those.
+/// whole report of the lines of the script with smaller numbers, none of them in part: so they tell
+/// the ledger and the standings behind those.
 pub fn a_front_tells_its_ledger()
     ensures { FrontsTellLedgers }
 {
