@@ -1,5 +1,5 @@
 -- The run of a made script, folded as it goes, and its last line.
-use Rattle.std.proofs.Common.{◌≡◌, ◌<◌, ◌+◌, ℕ, List, [], ◌∷◌, ◌++◌, length, take, codes, decimal, Option, Some, None, IsSome, Result, Ok, Err, OnOk, is_err, false, refl, sym, ap, subst, ◌∙◌, arith, append-nil, length-append}
+use Rattle.std.proofs.Common.{◌≡◌, ◌<◌, ◌+◌, ℕ, List, [], ◌∷◌, ◌++◌, length, take, codes, decimal, Option, Some, None, IsSome, Result, Ok, Err, OnOk, is_err, false, refl, sym, ap, subst, ◌∙◌, arith, length-append}
 use Rattle.std.specs.Option.{option_to_list}
 use Rattle.std.proofs.lemmas.Bool.{false≢true}
 use Rattle.std.proofs.Math.Seq.{take-append_seam}
@@ -11,7 +11,7 @@ use Rattle.line_report.specs.Texts.{summary_text, unvouched_text}
 use Rattle.line_report.specs.declared.summary.Summary.{Summary}
 use Rattle.line_step.specs.Parts.{ScriptLineSteps}
 use Rattle.line_step.specs.State.{LineState, no_line}
-use Rattle.line_step.specs.Runs.{Point, told_text}
+use Rattle.line_step.specs.Runs.{told_text}
 use Rattle.line_step.specs.Views.{summary_of}
 use Rattle.line_step.proofs.Playing.{RunsOn, line-counted, line-told, runs-on, runs-told, script-one}
 use Rattle.made_script.specs.Fold.{fold_byte, fold_from, fold_of}

@@ -1,6 +1,6 @@
 -- What the first lines of a script are told of is a front of its report, since its other lines have steps; and a script has a
 -- report.
-use Rattle.std.proofs.Common.{◌≡◌, ◌∙◌, ◌+◌, ◌++◌, ℕ, List, append_assoc, ap, length, refl, subst, sym}
+use Rattle.std.proofs.Common.{◌≡◌, ◌∙◌, ◌+◌, ◌++◌, ℕ, List, append_assoc, ap, refl, subst, sym}
 use Rattle.line_script.specs.declared.line.ScriptLine.{ScriptLine}
 use Rattle.line_step.specs.Parts.{IsScriptRun}
 use Rattle.line_step.specs.Runs.{Point, state_behind, told_text}

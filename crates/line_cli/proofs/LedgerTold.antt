@@ -1,5 +1,5 @@
 -- The last line of a report has no number, so nothing is read off it.
-use Rattle.std.proofs.Common.{◌≡◌, ◌≤◌, ◌∙◌, ℕ, List, [], ◌∷◌, ◌++◌, Option, Some, None, ap, append_assoc, append-nil, arith, codes, decimal, length, length-append, refl, subst, sym}
+use Rattle.std.proofs.Common.{◌≡◌, ◌≤◌, ℕ, List, [], ◌∷◌, ◌++◌, Option, Some, None, ap, arith, codes, decimal, length, length-append, refl, subst, sym}
 use Rattle.std.specs.List.{AllByRecursion}
 use Rattle.line_script.specs.Words.{why_text}
 use Rattle.line_script.specs.declared.line.LineWhy.{LineWhy}
@@ -7,14 +7,14 @@ use Rattle.line_script.specs.declared.line.ScriptLine.{ScriptLine}
 use Rattle.line_report.specs.Texts.{summary_text, unvouched_text}
 use Rattle.line_report.specs.declared.summary.Summary.{Summary}
 use Rattle.line_step.specs.State.{LineState}
-use Rattle.line_step.specs.Runs.{state_behind, told_text}
+use Rattle.line_step.specs.Runs.{state_behind}
 use Rattle.line_step.specs.State.{no_line}
 use Rattle.one_standing.specs.Standing.{IsFitLine}
 use Rattle.machine_log.proofs.Inner.{inner, inner_why}
 use Rattle.machine_log.proofs.Solid.{inner_decimal, is_inner, join}
 use Rattle.report_ledger.specs.Asked.{ReportTellsStarts}
 use Rattle.report_ledger.specs.Fronts.{FrontsTellLedgers}
-use Rattle.report_ledger.specs.Ledgers.{AreUnnumbered, ReportTellsLedger, TellsLedger, honest}
+use Rattle.report_ledger.specs.Ledgers.{AreUnnumbered, ReportTellsLedger}
 use Rattle.report_ledger.specs.Standings.{ReportTellsStandings}
 use Rattle.report_ledger.specs.ReportLines.{line_of, lines_in}
 use Rattle.report_ledger.proofs.Fronts.{first_fit}

@@ -1,11 +1,10 @@
 -- In the run of a script a line that tells what was not so has its number alone: what a stop does tells no lie.
-use Rattle.std.proofs.Common.{◌≡◌, ◌∙◌, ◌+◌, ◌-◌, ◌<◌, ◌≤◌, ℕ, true, false, List, [], ◌∷◌, ◌++◌, Ok, Err, arith, sym}
+use Rattle.std.proofs.Common.{◌∙◌, ◌+◌, ◌-◌, ◌≤◌, ℕ, List, [], ◌∷◌, Ok, Err, arith, sym}
 use Rattle.std.proofs.lemmas.Bool.{false≢true}
 use Rattle.line_base.specs.declared.states.Side.TheVariants.{Entry, Exit}
 use Rattle.line_script.specs.declared.line.ScriptLine.{ScriptLine}
 use Rattle.line_script.specs.declared.line.ScriptLine.TheVariants as lines
-use Rattle.line_step.specs.Lies.{tells_lie}
-use Rattle.line_step.specs.Parts.{IsPlay, IsScriptRun, Part, PartSteps, cut_where, script_parts, where_may}
+use Rattle.line_step.specs.Parts.{IsScriptRun, Part, PartSteps, where_may}
 use Rattle.line_step.specs.Reasons.{May, may_cut, may_notice}
 use Rattle.line_step.specs.Runs.{Point}
 use Rattle.line_step.specs.State.{LineState}

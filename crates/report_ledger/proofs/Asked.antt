@@ -1,5 +1,5 @@
 -- Each opening that a report's bytes tell answers the last start that they told at its gap.
-use Rattle.std.proofs.Common.{◌≡◌, ◌≢◌, ◌≤◌, ◌<◌, ◌^◌, ◌∙◌, sym, ap, refl, subst, ℕ, ◌+◌, ◌-◌, ◌==◌, Bool, true, false, List, [], ◌∷◌, ◌++◌, Option, Some, append_assoc, append-nil, arith, codes, decimal, if◌then◌else◌}
+use Rattle.std.proofs.Common.{◌≡◌, ◌≤◌, ◌<◌, ◌^◌, ◌∙◌, sym, ap, refl, subst, ℕ, ◌+◌, ◌-◌, ◌==◌, Bool, true, false, List, [], ◌∷◌, ◌++◌, Option, Some, append_assoc, append-nil, arith, codes, decimal, if◌then◌else◌}
 use Rattle.std.proofs.lemmas.Bool.{eq-eqb, eqb-true}
 use Rattle.std.specs.List.{AllByRecursion}
 use Rattle.std.proofs.lemmas.List.Elements.{recursion_from_All}
@@ -13,9 +13,8 @@ use Rattle.line_history.specs.Opened.{IsStartedFor, OpensAsStarted, OpensWhatSta
 use Rattle.line_report.specs.Texts.{act_text, deed_text, happening_text, told_text as body_text}
 use Rattle.line_report.specs.declared.happening.Happening.{Happening}
 use Rattle.line_report.specs.declared.happening.Happening.TheVariants as happenings
-use Rattle.line_script.specs.declared.line.ScriptLine.{ScriptLine}
 use Rattle.line_step.specs.Runs.{Point, told_text}
-use Rattle.line_step.specs.Parts.{IsScriptRun, lines_played, script_parts}
+use Rattle.line_step.specs.Parts.{lines_played, script_parts}
 use Rattle.line_step.proofs.Playing.{play-run, script-short}
 use Rattle.one_standing.proofs.Playing.{script_played_fit}
 use Rattle.report_ledger.proofs.Alone.{script_alone}

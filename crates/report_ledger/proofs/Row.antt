@@ -1,5 +1,5 @@
 -- The worked row computes, but for its id.
-use Rattle.std.proofs.Common.{◌≡◌, ◌∙◌, ap, refl, ℕ, ◌<◌, ◌^◌, List, [], ◌∷◌, ◌++◌, Option, append_assoc, codes, option_to_list}
+use Rattle.std.proofs.Common.{◌≡◌, ◌∙◌, ap, refl, ℕ, List, [], ◌∷◌, ◌++◌, Option, append_assoc, codes, option_to_list}
 use Rattle.std.specs.Prelude.{option_map}
 use Rattle.board_record.specs.BoardId.{id_text}
 use Rattle.board_record.proofs.IdTexts.{read_id-id_text}

@@ -1,5 +1,5 @@
 -- The standing that a report's bytes told last of an id is the one that its ledger gives.
-use Rattle.std.proofs.Common.{◌≡◌, ◌≢◌, ◌≤◌, ◌<◌, ◌^◌, ◌∙◌, sym, ap, refl, subst, ℕ, suc, zero, ◌+◌, ◌==◌, ◌||◌, Bool, true, false, List, [], ◌∷◌, ◌++◌, Option, Some, None, append_assoc, arith, codes, decimal, eqb-true, flat_map, if◌then◌else◌, take}
+use Rattle.std.proofs.Common.{◌≡◌, ◌≢◌, ◌<◌, ◌^◌, ◌∙◌, sym, ap, refl, subst, ℕ, suc, zero, ◌+◌, ◌==◌, ◌||◌, Bool, true, false, List, [], ◌∷◌, ◌++◌, Option, Some, None, append_assoc, arith, codes, decimal, eqb-true, flat_map, if◌then◌else◌, take}
 use Rattle.std.specs.Prelude.{IfSome, nat_lt}
 use Rattle.std.specs.List.{AllByRecursion}
 use Rattle.std.proofs.lemmas.Bool.{or_parts}
@@ -18,7 +18,7 @@ use Rattle.line_step.specs.Lines.{LineSteps}
 use Rattle.line_step.specs.Tracks.{TrackLine, TrackSteps, other_line, own_line}
 use Rattle.line_step.proofs.Beside.{beside-marks}
 use Rattle.line_step.specs.Runs.{IsRun, Point, state_behind, told_text}
-use Rattle.line_step.specs.Parts.{IsScriptRun, lines_played, script_parts}
+use Rattle.line_step.specs.Parts.{lines_played, script_parts}
 use Rattle.line_step.proofs.Playing.{play-run, script-short}
 use Rattle.one_standing.proofs.Playing.{script_played_fit}
 use Rattle.report_ledger.proofs.Alone.{script_alone}

@@ -1,7 +1,7 @@
 -- STARTS AND OPENINGS OF A REPORT'S BYTES: where the text tells that a handover opens at a gap, the
 -- last start that it told there is of this board, and nothing was opened, refused or settled there
 -- since.
-use Rattle.std.specs.Prelude.{◌≡◌, ℕ, ◌≤◌, ◌==◌, ◌++◌, Bool, false, List, [], ◌∷◌, Option, None, Some, codes, if◌then◌else◌, length}
+use Rattle.std.specs.Prelude.{◌≡◌, ℕ, ◌≤◌, ◌==◌, ◌++◌, false, List, [], ◌∷◌, Option, None, Some, codes, if◌then◌else◌, length}
 use Rattle.std.specs.List.{AllByRecursion, list_any}
 use Rattle.std.specs.Str.{bytes_eq}
 use Rattle.line_base.specs.Number.{value_of}
