@@ -13,6 +13,7 @@ use Rattle.line_report.specs.declared.happening.Reason.TheVariants as reasons
 use Rattle.line_script.specs.declared.line.LineWhy.{LineWhy}
 use Rattle.line_script.specs.declared.line.LineWhy.TheVariants as whys
 use Rattle.machine_log.specs.Texts.{lines_of, no_line, refused_line}
+use Rattle.entry_step.specs.Given.{entry_of}
 use Rattle.node_core.specs.May.{may_of}
 use Rattle.node_core.specs.Sides.{is_open}
 use Rattle.node_core.specs.declared.input.Input.{Input}
@@ -68,7 +69,7 @@ step_happens asked rules moment sensed input s k =
     let own = has_steps s.node sensed input moment in
     let small = steps_small s.node own.next sensed input moment own.acts own.steps k.node in
     record {
-      after = stepped asked rules own.next own.acts s;
+      after = stepped asked rules (entry_of sensed input moment) own.next own.acts s;
       log = lines_of rules.panel.drives s.turn rules.number own.acts;
       does = record { node = own.next; told = own.acts; steps = own.steps; proper = small.proper; after = refl; lines = refl };
       kept = record { node = small.node; channel = k.channel; config = k.config; held = k.held };
@@ -83,7 +84,7 @@ second_happens (Ok done) rules moment input s k =
     let own = has_steps s.node [] input moment in
     let small = steps_small s.node own.next [] input moment own.acts own.steps k.node in
     record {
-      after = refusing rules own.next own.acts s;
+      after = refusing rules (entry_of [] input moment) own.next own.acts s;
       log = lines_of rules.panel.drives s.turn rules.number own.acts;
       does = record { node = own.next; told = own.acts; steps = own.steps; proper = small.proper; after = refl; lines = refl };
       kept = record { node = small.node; channel = k.channel; config = k.config; held = k.held };

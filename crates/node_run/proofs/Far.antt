@@ -88,10 +88,10 @@ try_most (Some settings) = omega arith
 reset_most : (resets : Resets) → reset_work resets ≤ 40
 reset_most resets = omega (arith, count_most resets.upstream, count_most resets.downstream)
 
-others_most : (s : RunState) → other_work s ≤ 116
+pub others_most : (s : RunState) → other_work s ≤ 116
 others_most s = omega (arith, calm_most s, try_most s.tries, reset_most s.resets)
 
-hear_most : (channel : ChannelValue) → IsShort channel → hear_work channel ≤ 73729
+pub hear_most : (channel : ChannelValue) → IsShort channel → hear_work channel ≤ 73729
 hear_most channel short = omega (arith, short.waiting, short.piece, count_most channel.hears)
 
 -- ---- places
@@ -114,7 +114,7 @@ behind_far rules s places.SendConfiguration goes = omega arith
 behind_far rules s places.TurnDone goes = omega (arith, turn_goes (nat_lt s.turn rules.turns) s.turn rules.turns refl goes)
 
 -- a place behind this one, whatever is to do there
-further : (far near work less : ℕ) → near + 1 ≤ far → less < 30000000 → 30000000 * near + less < 30000000 * far + work
+pub further : (far near work less : ℕ) → near + 1 ≤ far → less < 30000000 → 30000000 * near + less < 30000000 * far + work
 further far near work less nearer few = omega (arith, nearer, few)
 
 place_far : (rules : Rules) (s t : RunState) (found : Next) → at_place rules s s.place ≡ found → is_end found ≡ false → t.turn ≡ turn_behind s.place s.turn → t.place ≡ place_behind s.place → length t.rest ≤ 4096 → IsShort t.channel → IsShort t.config → HasFewLooks t.held → far_of rules t < far_of rules s

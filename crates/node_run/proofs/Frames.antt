@@ -10,7 +10,11 @@ use Rattle.line_outside.specs.declared.way.Way.TheVariants as ways
 use Rattle.line_outside.specs.declared.way.Address.{Address}
 use Rattle.board_record.specs.declared.sensed.Sensed.{Sensed}
 use Rattle.line_script.specs.declared.line.LineWhy.{LineWhy}
+use Rattle.book_entry.specs.declared.entry.Entry.{Entry as BookEntry}
+use Rattle.entry_step.specs.Given.{entry_of}
 use Rattle.node_core.specs.May.{may_of}
+use Rattle.node_core.specs.Node.{NodeState}
+use Rattle.node_core.specs.declared.act.Act.{Act}
 use Rattle.node_core.specs.declared.input.Input.{Input}
 use Rattle.node_core.specs.declared.input.Input.TheVariants as inputs
 use Rattle.node_core.specs.declared.input.No.{No}
@@ -21,7 +25,8 @@ use Rattle.node_run.specs.declared.rules.Rules.{Rules}
 use Rattle.node_run.specs.Held.{HeldValue, holds}
 use Rattle.node_run.specs.State.{RunState, WayValue, echoed, way_at, with_way, with_wire}
 use Rattle.node_run.specs.Next.{has_ended}
-use Rattle.node_run.specs.Steps.{Takes, TakesStep, MeetsSecond}
+use Rattle.node_run.specs.Gone.{HearsIf, StepsIf}
+use Rattle.node_run.specs.Steps.{Takes, TakesStep, MeetsSecond, with_node}
 use Rattle.node_run.specs.After.{after_send, greeting, PanelArrives, AfterPanel, panel_second, panel_bytes, panel_closed, after_configuration, configuration_arrived, configuration_second, configuration_bytes, configuration_closed, after_supervisory, supervisory_arrived, supervisory_second, supervisory_bytes, supervisory_closed, with_held, AfterUpstream, AfterDownstream, AfterPoll}
 use Rattle.node_run.specs.Lines.{cut_line, behind_first, without_return, is_too_long, Tells, DoesInput, AsksIf, AsksConnect, may_ask, DoesAsked, KeepsFront, Fronts, Ends, DoesCut, DoesLine}
 use Rattle.node_run.specs.declared.way_state.Wire.{Wire}
@@ -55,6 +60,17 @@ second_same : (most : ℕ) (may : Result (Unit {0}) No) (rules : Rules) (moment 
 second_same most (Ok done) rules moment input s t log meets =
     record { turn = ap (λ (r : RunState). r.turn) meets.after; place = ap (λ (r : RunState). r.place) meets.after; ended = ap (λ (r : RunState). r.ended) meets.after; settings = ap (λ (r : RunState). r.settings) meets.after; rest = λ few. omega (arith, ap (λ (r : RunState). length r.rest) meets.after, few) }
 second_same most (Err why) rules moment input s t log meets = same_at most s s t meets.0 (same most s)
+
+alone_same : (most : ℕ) (entry : BookEntry) (node : NodeState) (told : List Act) (s : RunState) → SamePlace most s (with_node entry node told s)
+alone_same most entry node told s = record { turn = refl; place = refl; ended = refl; settings = refl; rest = λ few. few }
+
+gone_same : (most : ℕ) (may : Result (Unit {0}) No) (rules : Rules) (moment : ℤ) (input : Input) (s t : RunState) (log : List ℕ) → StepsIf may rules moment input s t log → SamePlace most s t
+gone_same most (Ok done) rules moment input s t log steps = same_at most s _ t steps.after (alone_same most (entry_of [] input moment) steps.node steps.told s)
+gone_same most (Err why) rules moment input s t log steps = same_at most s s t steps.0 (same most s)
+
+pub hears_same : (most : ℕ) (gone : Option Input) (rules : Rules) (moment : ℤ) (s t : RunState) (log : List ℕ) → HearsIf gone rules moment s t log → SamePlace most s t
+hears_same most None rules moment s t log hears = same_at most s s t hears.0 (same most s)
+hears_same most (Some input) rules moment s t log hears = gone_same most (may_of s.node input) rules moment input s t log hears
 
 arrived_same : (most : ℕ) (wire : Wire) (rules : Rules) (s t : RunState) (log : List ℕ) → PanelArrives wire rules s t log → SamePlace most s t
 arrived_same most wires.Rests rules s t log arrives = same_at most s (echoed (greeting rules s) (with_wire ways.Panel wires.Stands s)) t arrives.0 (record { turn = refl; place = refl; ended = refl; settings = refl; rest = λ few. few })

@@ -54,7 +54,7 @@ pub gains_none : (g : Option (List Given)) → Gains g g []
 gains_none None = tt
 gains_none (Some old) = sym (append-nil old)
 
-gains_more : (a b c : Option (List Given)) (front back : List Given) → Gains a b front → Gains b c back → Gains a c (front ++ back)
+pub gains_more : (a b c : Option (List Given)) (front back : List Given) → Gains a b front → Gains b c back → Gains a c (front ++ back)
 gains_more None None None front back first second = tt
 gains_more None None (Some c) front back first second = second
 gains_more None (Some b) c front back first second = absurd first
@@ -338,11 +338,11 @@ no_log_fault ended is e = let P : Option NodeStatus → Type 0 = IsRunEnd in sub
 no_memory : (ended : Option NodeStatus) → IsRunEnd ended → ended ≡ Some statuses.Memory → ⊥
 no_memory ended is e = let P : Option NodeStatus → Type 0 = IsRunEnd in subst P e is
 
-not_by_log : (ended : Option NodeStatus) → IsRunEnd ended → (let status : NodeStatus = statuses.LogFault in (ended ≡ Some status) ⊎ (status ≡ statuses.TurnsUsed)) → ⊥
+pub not_by_log : (ended : Option NodeStatus) → IsRunEnd ended → (let status : NodeStatus = statuses.LogFault in (ended ≡ Some status) ⊎ (status ≡ statuses.TurnsUsed)) → ⊥
 not_by_log ended is (inl e) = no_log_fault ended is e
 not_by_log ended is (inr e) = cc
 
-not_by_memory : (ended : Option NodeStatus) → IsRunEnd ended → (let status : NodeStatus = statuses.Memory in (ended ≡ Some status) ⊎ (status ≡ statuses.TurnsUsed)) → ⊥
+pub not_by_memory : (ended : Option NodeStatus) → IsRunEnd ended → (let status : NodeStatus = statuses.Memory in (ended ≡ Some status) ⊎ (status ≡ statuses.TurnsUsed)) → ⊥
 not_by_memory ended is (inl e) = no_memory ended is e
 not_by_memory ended is (inr e) = cc
 
@@ -634,7 +634,7 @@ short_found gots.Failed room bytes full within = tt
 
 -- ---- a move from a run that has told nothing yet
 
-abbrev begun : RunView → RunView
+abbrev pub begun : RunView → RunView
 begun r = record r { told = [] }
 
 pub once_moved : (told : Option ℤ) (r b u : RunView) (given_old given_new : Option (List Given)) (log_old log_new : Option (List ℕ)) (before now : ℕ)
@@ -657,7 +657,7 @@ once_missed r b given_old given_new log e misses =
     let P : RunView → Type 0 = λ v. MissesMove v.rules v.state given_old given_new in
     record { misses = subst P e misses; logged = refl }
 
-begun_next : (r b : RunView) (next : Next) → b ≡ begun r → next ≡ next_of b.rules b.state → next_of r.rules r.state ≡ next
+pub begun_next : (r b : RunView) (next : Next) → b ≡ begun r → next ≡ next_of b.rules b.state → next_of r.rules r.state ≡ next
 begun_next r b next e is = let P : RunView → Type 0 = λ v. next ≡ next_of v.rules v.state in sym (subst P e is)
 
 pub once_ended : (told : Option ℤ) (r b : RunView) (given : Option (List Given)) (log : Option (List ℕ)) (status : NodeStatus)

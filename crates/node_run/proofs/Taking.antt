@@ -11,6 +11,7 @@ use Rattle.hermes_vertical.specs.declared.kind.VerticalKind.{VerticalKind}
 use Rattle.hermes_vertical.specs.declared.message.Vertical.{Vertical}
 use Rattle.supervisory_core.specs.Row.{SupervisedRow}
 use Rattle.supervisory_core.specs.Told.{unexpected}
+use Rattle.entry_step.specs.Given.{entry_of}
 use Rattle.node_core.specs.May.{may_of}
 use Rattle.node_core.specs.declared.act.Act.{Act}
 use Rattle.node_core.specs.declared.input.Input.{Input}
@@ -25,6 +26,8 @@ use Rattle.supervised_end.specs.Channel.{HearsNext}
 use Rattle.node_run.specs.Held.{Finding, nothing_held}
 use Rattle.supervised_end.specs.Said.{all_told_for, notification, system_of, told_for, untaken}
 use Rattle.node_run.specs.Hearing.{AnswersIf, BreaksOff, Describes, DoesFound, DoesHear, DoesRow, Unsupervised, said, session_ended, with_channel}
+use Rattle.node_run.specs.Next.{moved_on}
+use Rattle.node_run.specs.Gone.{HearsGone, HearsIf, StepsAlone, gone_at}
 use Rattle.node_run.specs.State.{RunState, RunView, WayValue, echoed, with_wire}
 use Rattle.node_run.specs.Steps.{HasStepped, Takes, TakesSecond, TakesStep, closes_side, message_for, messages_for, panel_told, put, put_told, refusing_with, routed, with_node}
 use Rattle.supervised_end.specs.declared.channel.Found.{Found}
@@ -83,7 +86,7 @@ asked_taken (Ok done) moment sensed input acts listed r m n u same stepped to_wa
       ∙ ap (λ (v : RunView). echoed v.told v.state) to_ways
       ∙ ap (λ l. echoed m.told (routed l m.state)) same
       ∙ ap (λ (s : RunState). echoed m.told (routed acts s)) stepped.after
-      ∙ ap (λ l. echoed l (routed acts (with_node m.state.node acts r.state))) stepped.lines;
+      ∙ ap (λ l. echoed l (routed acts (with_node (entry_of sensed input moment) m.state.node acts r.state))) stepped.lines;
   lines = ap (λ (v : RunView). v.told) to_panel ∙ ap (λ (v : RunView). v.told) to_ways ∙ stepped.lines;
 }
 asked_taken (Err memory) moment sensed input acts listed r m n u same stepped to_ways to_panel = tt
@@ -202,3 +205,15 @@ held_taken result moment finding r m u same e takes =
     let P : RunView → Type 0 = λ v. OnOk result (TakesFinding finding v.rules moment v.state u.state u.told) in
     let Q : Option Finding → Type 0 = λ f. OnOk result (TakesFinding f r.rules moment (with_held nothing_held r.state) u.state u.told) in
     subst Q same (subst P e takes)
+
+-- ---- a step whose messages go nowhere
+
+pub alone_taken : (moment : ℤ) (input : Input) (acts : List Act) (r m : RunView) → HasStepped r.rules moment [] input acts r.state m.state m.told → StepsAlone r.rules moment input r.state m.state m.told
+alone_taken moment input acts r m stepped = record { node = m.state.node; told = acts; steps = stepped.steps; proper = stepped.proper; after = stepped.after; lines = stepped.lines }
+
+pub gone_heard : (result : Result (Unit {0}) Memory) (gone : Option Input) (moment : ℤ) (r m u : RunView) → gone ≡ gone_at r.state.place → m ≡ record r { state = moved_on r.state }
+    → OnOk result (HearsIf gone m.rules moment m.state u.state u.told) → OnOk result (HearsGone r.rules moment r.state u.state u.told)
+gone_heard result gone moment r m u is moved hears =
+    let P : RunView → Type 0 = λ v. OnOk result (HearsIf gone v.rules moment v.state u.state u.told) in
+    let Q : Option Input → Type 0 = λ g. OnOk result (HearsIf g r.rules moment (moved_on r.state) u.state u.told) in
+    subst Q is (subst P moved hears)

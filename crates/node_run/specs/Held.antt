@@ -20,6 +20,10 @@ nothing_held = record { finding = None; looks = 0 }
 abbrev pub most_looks : ℕ
 most_looks = 16
 
+-- what a poll gives at most
+abbrev pub most_bytes : ℕ
+most_bytes = 4096
+
 abbrev pub seen_finding : Side → Option (List ℕ) → Finding
 seen_finding side bytes = record { side = side; bytes = bytes }
 

@@ -8,6 +8,7 @@ pub mod Hearing
 pub mod Configuring
 pub mod After
 pub mod Resetting
+pub mod Gone
 pub mod Runs
 pub mod Moving
 pub mod Work
@@ -15,3 +16,5 @@ pub mod Cuts
 pub mod Settled
 pub mod Owning
 pub mod Told
+pub mod Booked
+pub mod Booking

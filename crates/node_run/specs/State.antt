@@ -1,11 +1,12 @@
 -- The state of a run: the machine, its ways, the bytes of those that are heard message by message,
 -- where its neighbours are, the drives, the panel's text, what was found of a neighbour and isn't
--- taken yet, and what comes next.
-use Rattle.std.specs.Prelude.{ℕ, ◌++◌, Bool, false, List, [], Option, None, Some}
+-- taken yet, its machine's last step, and what comes next.
+use Rattle.std.specs.Prelude.{ℕ, ◌++◌, Bool, false, not, List, [], Option, None, Some}
 use Rattle.line_outside.specs.declared.way.Way.{Way}
 use Rattle.line_outside.specs.declared.way.Way.TheVariants as ways
 use Rattle.config_service.specs.declared.config.Resets.{Resets}
 use Rattle.config_service.specs.declared.message.Settings.{Settings}
+use Rattle.book_entry.specs.declared.entry.Entry.{Entry}
 use Rattle.node_core.specs.Node.{NodeState}
 use Rattle.supervised_end.specs.Channel.{ChannelValue, no_session}
 use Rattle.machine_log.specs.Drives.{all_off}
@@ -28,6 +29,17 @@ pub record Refusal : Type 0 where
   pub way : Way
   pub text : List ℕ
 
+-- the last step of the machine, if it made one. The flag turns at each
+pub record LastStepValue : Type 0 where
+  pub entry : Option Entry
+  pub odd : Bool
+
+abbrev pub no_step : LastStepValue
+no_step = record { entry = None; odd = false }
+
+abbrev pub one_more : Entry → LastStepValue → LastStepValue
+one_more entry step = record { entry = Some entry; odd = not step.odd }
+
 -- where the neighbours are (`settings`), a Set that waits for its listen (`tries`), and the sides
 -- that are to be reset (`resets`), are what the configuration service changes
 pub record RunState : Type 0 where
@@ -43,6 +55,7 @@ pub record RunState : Type 0 where
   pub tries : Option Settings
   pub resets : Resets
   pub drives : Drives
+  pub step : LastStepValue
   pub line : List ℕ
   pub drops : Bool
   pub rest : List ℕ
@@ -70,7 +83,7 @@ echoed text s = record s { panel = record s.panel { unsent = s.panel.unsent ++ t
 abbrev pub no_resets : Resets
 no_resets = record { upstream = false; downstream = false }
 
--- a run begins with a new machine, whose neighbours are these, before its first turn
+-- a run begins with a machine, whose neighbours are these, before its first turn
 abbrev pub started : Settings → NodeState → RunState
 started settings node = record {
   node = node;
@@ -85,6 +98,7 @@ started settings node = record {
   tries = None;
   resets = no_resets;
   drives = all_off;
+  step = no_step;
   line = [];
   drops = false;
   rest = [];
@@ -95,6 +109,10 @@ started settings node = record {
   turn = 1;
   ended = None;
 }
+
+-- or with one that begins again from its book, whose drives are these. ITS FIRST TURN IS TURN 0
+abbrev pub resumed : Settings → NodeState → Drives → RunState
+resumed settings node drives = record (started settings node) { drives = drives; turn = 0 }
 
 abbrev pub way_at : Way → RunState → WayValue
 way_at ways.Panel s = s.panel

@@ -6,6 +6,8 @@ use Rattle.line_base.specs.declared.states.Side.{Side}
 use Rattle.line_base.specs.declared.states.Side.TheVariants.{Entry, Exit}
 use Rattle.line_outside.specs.declared.way.Way.TheVariants as ways
 use Rattle.board_record.specs.declared.sensed.Sensed.{Sensed}
+use Rattle.book_entry.specs.declared.entry.Entry.{Entry as BookEntry}
+use Rattle.entry_step.specs.Given.{entry_of}
 use Rattle.hermes_horizontal.specs.Canonical.{canonical}
 use Rattle.node_core.specs.Node.{NodeState}
 use Rattle.node_core.specs.Step.{Steps}
@@ -17,7 +19,7 @@ use Rattle.supervised_end.specs.Said.{all_told_for}
 use Rattle.node_run.specs.declared.rules.Rules.{Rules}
 use Rattle.machine_log.specs.Account.{AreProper}
 use Rattle.machine_log.specs.Drives.{drives_after}
-use Rattle.node_run.specs.State.{WayValue, RunState, echoed}
+use Rattle.node_run.specs.State.{WayValue, RunState, echoed, one_more}
 use Rattle.machine_log.specs.Texts.{lines_of, news_lines}
 use Rattle.node_run.specs.declared.way_state.Wire.{Wire}
 use Rattle.node_run.specs.declared.way_state.Wire.TheVariants as wires
@@ -53,9 +55,14 @@ routed told s = record s {
   supervisory = put_told s.channel.stands told s.supervisory;
 }
 
--- what a step does to its machine
-abbrev pub with_node : NodeState → List Act → RunState → RunState
-with_node node told s = record s { node = node; drives = drives_after s.drives told }
+-- what a step does to its machine. ITS ENTRY IS THE LAST from then on
+abbrev pub with_node : BookEntry → NodeState → List Act → RunState → RunState
+with_node entry node told s =
+    record s {
+      node = node;
+      drives = drives_after s.drives told;
+      step = one_more entry s.step;
+    }
 
 -- what the panel is told of a step: all its lines, where it asked for the step, and else its news
 -- alone, where it has a connection
@@ -69,8 +76,9 @@ abbrev pub panel_told : Bool → Rules → List Act → RunState → RunState
 panel_told asked rules told s = echoed (panel_lines asked rules s.turn s.panel.wire told) s
 
 -- the run after a step of its machine, that did these acts
-abbrev pub stepped : Bool → Rules → NodeState → List Act → RunState → RunState
-stepped asked rules node told s = panel_told asked rules told (with_node node told (routed told s))
+abbrev pub stepped : Bool → Rules → BookEntry → NodeState → List Act → RunState → RunState
+stepped asked rules entry node told s =
+    panel_told asked rules told (with_node entry node told (routed told s))
 
 -- ONE STEP, that the panel asked for or not, with its lines in the log
 pub record TakesStep (asked : Bool) (rules : Rules) (moment : ℤ) (sensed : List Sensed)
@@ -79,7 +87,7 @@ pub record TakesStep (asked : Bool) (rules : Rules) (moment : ℤ) (sensed : Lis
   pub told : List Act
   pub steps : Steps s.node sensed input moment node told
   pub proper : AreProper told
-  pub after : t ≡ stepped asked rules node told s
+  pub after : t ≡ stepped asked rules (entry_of sensed input moment) node told s
   pub lines : log ≡ lines_of rules.panel.drives s.turn rules.number told
 
 -- one step from this state that no line of the panel asked for, where the machine can take the
@@ -105,9 +113,9 @@ refusing_with told s =
           (record { way = ways.Downstream; text = text_of_first told });
     }
 
-abbrev pub refusing : Rules → NodeState → List Act → RunState → RunState
-refusing rules node told s =
-    panel_told false rules told (with_node node told (refusing_with told s))
+abbrev pub refusing : Rules → BookEntry → NodeState → List Act → RunState → RunState
+refusing rules entry node told s =
+    panel_told false rules told (with_node entry node told (refusing_with told s))
 
 pub record TakesSecond (rules : Rules) (moment : ℤ) (input : Input) (s t : RunState)
     (log : List ℕ) : Type 0 where
@@ -115,7 +123,7 @@ pub record TakesSecond (rules : Rules) (moment : ℤ) (input : Input) (s t : Run
   pub told : List Act
   pub steps : Steps s.node [] input moment node told
   pub proper : AreProper told
-  pub after : t ≡ refusing rules node told s
+  pub after : t ≡ refusing rules (entry_of [] input moment) node told s
   pub lines : log ≡ lines_of rules.panel.drives s.turn rules.number told
 
 abbrev pub MeetsSecond : Result (Unit {0}) No → Rules → ℤ → Input → RunState → RunState → List ℕ
@@ -129,5 +137,5 @@ pub record HasStepped (rules : Rules) (moment : ℤ) (sensed : List Sensed) (inp
     (told : List Act) (s t : RunState) (log : List ℕ) : Type 0 where
   pub steps : Steps s.node sensed input moment t.node told
   pub proper : AreProper told
-  pub after : t ≡ with_node t.node told s
+  pub after : t ≡ with_node (entry_of sensed input moment) t.node told s
   pub lines : log ≡ lines_of rules.panel.drives s.turn rules.number told

@@ -1,6 +1,6 @@
 //! What the answers of the ports do.
 
-ghost use Rattle.std.specs.Prelude.{◌≡◌, ◌≤◌, ◌++◌, [], false, None, OnOk, length, option_map};
+ghost use Rattle.std.specs.Prelude.{◌≡◌, ◌≤◌, ◌++◌, [], false, None, IfSome, OnOk, length, option_map, vec_len};
 ghost use Rattle.line_outside.specs.declared.answer.GotBytes.TheVariants as founds;
 ghost use Rattle.node_run.specs.declared.way_state.Wire.TheVariants as wires;
 ghost use Rattle.node_run.specs.Next.{IsTurnLeft, moved_on};
@@ -229,7 +229,8 @@ impl Run {
     }
 
     fn after_upstream(&mut self, got: Got, bytes: &[u8], moment: Moment) -> Result<(), Memory>
-        requires { self.old.told ≡ [] }
+        requires told { self.old.told ≡ [] }
+        requires few { length bytes.now ≤ 4096 }
         ensures rules { self.new.rules ≡ self.old.rules }
         ensures after { OnOk result
             (AfterUpstream self.old.rules moment
@@ -247,7 +248,8 @@ impl Run {
     }
 
     fn after_downstream(&mut self, got: Got, bytes: &[u8], moment: Moment) -> Result<(), Memory>
-        requires { self.old.told ≡ [] }
+        requires told { self.old.told ≡ [] }
+        requires few { length bytes.now ≤ 4096 }
         ensures rules { self.new.rules ≡ self.old.rules }
         ensures after { OnOk result
             (AfterDownstream self.old.rules moment
@@ -340,6 +342,8 @@ impl Run {
             (λ found. seen_finding found.side (option_map (λ bytes. bytes.items) found.bytes))
             result
             ≡ self.old.state.held.finding }
+        ensures short { IfSome result
+            (λ found. IfSome found.bytes (λ bytes. vec_len bytes ≤ 4096)) }
         ensures left { self.new
             ≡ record self.old { state = with_held nothing_held self.old.state } }
     {
@@ -352,7 +356,8 @@ impl Run {
         bytes: Option<Vec<u8>>,
         moment: Moment,
     ) -> Result<(), Memory>
-        requires { self.old.told ≡ [] }
+        requires told { self.old.told ≡ [] }
+        requires short { IfSome bytes (λ bytes. vec_len bytes ≤ 4096) }
         ensures rules { self.new.rules ≡ self.old.rules }
         ensures takes { OnOk result
             (TakesFound (option_map (λ bytes. bytes.items) bytes) side self.old.rules moment
@@ -368,7 +373,8 @@ impl Run {
     }
 
     fn hear_bytes(&mut self, side: Side, bytes: &[u8], moment: Moment) -> Result<(), Memory>
-        requires { self.old.told ≡ [] }
+        requires told { self.old.told ≡ [] }
+        requires short { length bytes.now ≤ 4096 }
         ensures rules { self.new.rules ≡ self.old.rules }
         ensures hears { OnOk result
             (HearsBytes self.old.rules moment side bytes.now self.old.state self.new.state

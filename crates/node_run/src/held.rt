@@ -1,7 +1,7 @@
 //! What a poll of a neighbour's way found waits until the panel was polled again.
 
-ghost use Rattle.std.specs.Prelude.{◌≡◌, Some, None, OnOk, is_some, nat_lt, option_map};
-ghost use Rattle.node_run.specs.Held.{HasFewLooks, holds, looks_behind, nothing_held, seen_finding};
+ghost use Rattle.std.specs.Prelude.{◌≡◌, ◌≤◌, Some, None, IfSome, OnOk, is_some, length, nat_lt, option_map, vec_len};
+ghost use Rattle.node_run.specs.Held.{HasFewLooks, holds, looks_behind, most_bytes, nothing_held, seen_finding};
 
 use line_base::{Memory, Side};
 use std::alloc::Global;
@@ -25,8 +25,8 @@ pub struct Held {
 }
 
 impl Model for Held {
-    ghost use Rattle.std.specs.Prelude.{◌≤◌, option_map};
-    ghost use Rattle.node_run.specs.Held.{HeldValue, most_looks, seen_finding};
+    ghost use Rattle.std.specs.Prelude.{◌≤◌, IfSome, option_map, vec_len};
+    ghost use Rattle.node_run.specs.Held.{HeldValue, most_bytes, most_looks, seen_finding};
 
     ghost Value = { HeldValue };
 
@@ -38,7 +38,8 @@ impl Model for Held {
       looks = h.looks;
     } };
 
-    ghost invariant = { λ h. h.looks ≤ most_looks };
+    ghost invariant = { λ h. (h.looks ≤ most_looks)
+        × IfSome h.finding (λ found. IfSome found.bytes (λ bytes. vec_len bytes ≤ most_bytes)) };
 }
 
 impl Held {
@@ -75,6 +76,7 @@ impl Held {
 
     /// Bytes were found on the way of a side.
     pub fn hold_bytes(&mut self, alloc: Global, side: Side, bytes: &[u8]) -> Result<(), Memory>
+        requires { length bytes.now ≤ most_bytes }
         ensures { OnOk result (self.new ≡ holds side (Some bytes.now)) }
     {
         let mut held = Vec::new(alloc);
@@ -95,6 +97,7 @@ impl Held {
     }
 
     fn hold(&mut self, side: Side, bytes: Option<Vec<u8>>)
+        requires { IfSome bytes (λ bytes. vec_len bytes ≤ most_bytes) }
         ensures { self.new ≡ holds side (option_map (λ bytes. bytes.items) bytes) }
     {
         self.finding = Some(Finding { side, bytes });
@@ -119,6 +122,8 @@ impl Held {
             (λ found. seen_finding found.side (option_map (λ bytes. bytes.items) found.bytes))
             result
             ≡ self.old.finding }
+        ensures short { IfSome result
+            (λ found. IfSome found.bytes (λ bytes. vec_len bytes ≤ most_bytes)) }
         ensures left { self.new ≡ nothing_held }
     {
         self.looks = 0;

@@ -9,6 +9,7 @@ ghost use Rattle.node_run.specs.Owning.{OwnFollows, OwnIsRead};
 ghost use Rattle.node_run.specs.Runs.{Runs};
 ghost use Rattle.node_run.specs.Settled.{SettingsAreTheLast};
 ghost use Rattle.node_run.specs.State.{RunState, way_at};
+ghost use Rattle.node_run.specs.Booked.{EntriesAreTheSteps};
 
 /// Where more than 1,048,576 bytes wait on a way that has a connection, nothing but the end, the
 /// refusal of a second connection, the reset of a side or a close comes next.
@@ -35,4 +36,10 @@ pub fn what_a_machine_owns_is_read_off_its_log()
 /// or as before; and a side is to be reset exactly where its setting changed.
 pub fn the_settings_are_those_of_the_last_set()
     ensures { SettingsAreTheLast }
+{}
+
+/// The machine of a run makes exactly the steps of the run's entries, one after the other, and the log
+/// tells what is done in them.
+pub fn the_entries_are_the_steps()
+    ensures { EntriesAreTheSteps }
 {}

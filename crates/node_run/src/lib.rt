@@ -6,11 +6,14 @@
 #![tactic(auto)]
 
 mod after;
+mod booked;
 mod channel;
 mod configuring;
 mod due;
+mod gone;
 mod hearing;
 mod held;
+mod last_step;
 pub mod laws;
 mod lines;
 mod moves;
@@ -24,5 +27,6 @@ mod status;
 mod step;
 mod way_state;
 
+pub use booked::{BookedStatus, MOST_BOOK_BYTES, run_booked};
 pub use running::run_node;
 pub use status::NodeStatus;

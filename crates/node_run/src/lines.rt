@@ -1,11 +1,14 @@
 //! The panel's lines.
 
 ghost use Rattle.std.specs.Prelude.{◌≡◌, ◌==◌, ◌≤◌, ◌<◌, [], Ok, OnOk, IfOk, IfSome, length, drop, position};
+ghost use Rattle.entry_step.specs.Given.{own_of};
+ghost use Rattle.entry_step.specs.Short.{IsShort};
 ghost use Rattle.node_core.specs.May.{may_of};
 ghost use Rattle.node_run.specs.Lines.{AsksConnect, DoesAsked, DoesInput, DoesLine, Ends, Fronts, Tells, cut_line, without_return};
 ghost use Rattle.node_run.specs.Cuts.{HasCut, fronted};
 ghost use Rattle.node_panel.specs.Panel.{panel_line_of};
 ghost use Rattle.machine_log.specs.Texts.{no_line, refused_line};
+ghost use Rattle.panel_inputs.specs.Inputs.{input_of};
 
 use crate::run::Run;
 use crate::status::NodeStatus;
@@ -169,7 +172,7 @@ impl Run {
             PanelLine::Show => self.show(),
             PanelLine::Connect => self.ask_connection(),
             PanelLine::Sense { sensed } => self.do_input(&[sensed], Input::Nothing, moment),
-            asked => self.do_input(&[], input_of(asked), moment),
+            asked => self.do_input(&[], line_input(asked), moment),
         }
     }
 
@@ -180,7 +183,9 @@ impl Run {
         input: Input<'_>,
         moment: Moment,
     ) -> Result<(), Memory>
-        requires { self.old.told ≡ [] }
+        requires told { self.old.told ≡ [] }
+        requires events { length sensed.now ≤ 65535 }
+        requires short { IsShort (own_of input) }
         ensures rules { self.new.rules ≡ self.old.rules }
         ensures does { OnOk result
             (DoesInput
@@ -231,4 +236,12 @@ fn without_return(line: &[u8]) -> &[u8]
         [front @ .., b'\r'] => front,
         _ => line,
     }
+}
+
+/// The input that a line gives to the machine.
+fn line_input(asked: PanelLine) -> Input<'static>
+    ensures input { result ≡ input_of asked }
+    ensures short { IsShort (own_of result) }
+{
+    input_of(asked)
 }

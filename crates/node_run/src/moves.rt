@@ -324,7 +324,7 @@ fn close<P: Ports, C: Clock>(
 }
 
 /// What the clock says. Every clock stays within the years of a moment.
-fn moment_of<C: Clock>(clock: &mut C) -> Moment
+pub fn moment_of<C: Clock>(clock: &mut C) -> Moment
     ensures clock { C.moment clock.new ≡ C.moment clock.old }
     ensures told { IsMoment (C.moment clock.old) result }
 {

@@ -7,6 +7,7 @@ ghost use Rattle.node_run.specs.After.{after_send};
 ghost use Rattle.line_outside.specs.declared.ports.Sent.TheVariants as sents;
 
 use crate::held::Held;
+use crate::last_step::LastStep;
 use crate::place::Place;
 use crate::rules::Rules;
 use crate::status::NodeStatus;
@@ -44,6 +45,7 @@ pub struct Run {
     pub(crate) tries: Option<Settings>,
     pub(crate) resets: Resets,
     pub(crate) drives: Drives,
+    pub(crate) step: LastStep,
     pub(crate) line: Vec<u8>,
     pub(crate) drops: bool,
     pub(crate) rest: Vec<u8>,
@@ -78,6 +80,7 @@ impl Model for Run {
         tries = r.tries;
         resets = r.resets;
         drives = r.drives;
+        step = r.step;
         line =
             r.line.items;
         drops = r.drops;
@@ -130,6 +133,7 @@ impl Run {
                 downstream: false,
             },
             drives: Drives::off(),
+            step: LastStep::none(),
             line: Vec::new(alloc),
             drops: false,
             rest: Vec::new(alloc),
@@ -142,6 +146,15 @@ impl Run {
             ended: None,
             told: Vec::new(alloc),
         }
+    }
+
+    /// It is the run of a machine that begins again, with these drives.
+    pub(crate) fn resume(&mut self, drives: Drives)
+        ensures { self.new
+            ≡ record self.old { state = record self.old.state { drives = drives; turn = 0 } } }
+    {
+        self.drives = drives;
+        self.turn = 0;
     }
 
     /// The lines of the present move in the log.

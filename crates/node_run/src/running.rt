@@ -18,7 +18,7 @@ use std::alloc::Global;
 use supervised_end::Channel;
 
 /// How many bytes a poll takes at most.
-const ROOM_BYTES: usize = 4096;
+pub const ROOM_BYTES: usize = 4096;
 
 /// Runs a machine with these settings until its panel says `end`, its turns are used, or something
 /// outside fails.
@@ -47,7 +47,9 @@ pub fn run_node<P: Ports, C: Clock, K: Sink>(
         Ok(run) => run,
         Err(_) => return NodeStatus::Memory,
     };
-    run_on(&mut run, room.as_mut_slice(), ports, clock, log)
+    let status = run_on(&mut run, room.as_mut_slice(), ports, clock, log);
+    drop(run);
+    status
 }
 
 /// Makes the moves of a run one after the other, until it ends.

@@ -1,7 +1,9 @@
 //! Steps of the machine in a run.
 
-ghost use Rattle.std.specs.Prelude.{◌≡◌, ◌++◌, [], ◌∷◌, true, false, IfOk, OnOk};
+ghost use Rattle.std.specs.Prelude.{◌≡◌, ◌++◌, ◌≤◌, [], ◌∷◌, true, false, IfOk, OnOk, length};
 ghost use Rattle.line_base.specs.declared.states.Side.TheVariants.{Exit};
+ghost use Rattle.entry_step.specs.Given.{own_of};
+ghost use Rattle.entry_step.specs.Short.{IsShort};
 ghost use Rattle.node_core.specs.May.{may_of, may_do};
 ghost use Rattle.node_core.specs.declared.act.Act.TheVariants as acts;
 ghost use Rattle.node_core.specs.declared.input.Input.TheVariants as inputs;
@@ -21,7 +23,8 @@ use node_core::{Act, Input, Outputs};
 impl Run {
     /// A step, where the machine can take the input, and else nothing.
     pub fn take(&mut self, input: Input<'_>, moment: Moment) -> Result<(), Memory>
-        requires { self.old.told ≡ [] }
+        requires told { self.old.told ≡ [] }
+        requires short { IsShort (own_of input) }
         ensures rules { self.new.rules ≡ self.old.rules }
         ensures takes { OnOk result
             (Takes (may_of self.old.state.node input.entry) self.old.rules moment input.entry
@@ -42,6 +45,8 @@ impl Run {
     ) -> Result<(), Memory>
         requires may { may_of self.old.state.node input ≡ may_do }
         requires told { self.old.told ≡ [] }
+        requires events { length sensed.now ≤ 65535 }
+        requires short { IsShort (own_of input) }
         ensures rules { self.new.rules ≡ self.old.rules }
         ensures takes { OnOk result
             (TakesStep true self.old.rules moment sensed.now input.entry self.old.state
@@ -57,6 +62,7 @@ impl Run {
     pub fn step_unasked(&mut self, input: Input<'_>, moment: Moment) -> Result<(), Memory>
         requires may { may_of self.old.state.node input ≡ may_do }
         requires told { self.old.told ≡ [] }
+        requires short { IsShort (own_of input) }
         ensures rules { self.new.rules ≡ self.old.rules }
         ensures takes { OnOk result
             (TakesStep false self.old.rules moment [] input.entry self.old.state self.new.state
@@ -85,7 +91,7 @@ impl Run {
     }
 
     /// The machine's step and its lines. Where its messages go is for the caller.
-    fn step_silently(
+    pub(crate) fn step_silently(
         &mut self,
         sensed: &[Sensed],
         input: Input<'_>,
@@ -93,11 +99,14 @@ impl Run {
     ) -> Result<Outputs, Memory>
         requires may { may_of self.old.state.node input ≡ may_do }
         requires told { self.old.told ≡ [] }
+        requires events { length sensed.now ≤ 65535 }
+        requires short { IsShort (own_of input) }
         ensures rules { self.new.rules ≡ self.old.rules }
         ensures stepped { IfOk result
             (λ acts. HasStepped self.old.rules moment sensed.now input.entry acts self.old.state
             self.new.state self.new.told) }
     {
+        self.step.note(self.alloc, sensed, &input, moment)?;
         let acts = self.node.step(sensed, input, moment)?;
         acts_are_proper(acts.list());
         self.drives.obey(acts.list());

@@ -3,6 +3,10 @@ use Rattle.std.proofs.Common.{◌≡◌, ◌∙◌, ℕ, ℤ, Bool, false, List,
 use Rattle.std.specs.Borrow.{Bor}
 use Rattle.line_base.specs.declared.states.Side.{Side}
 use Rattle.board_record.specs.declared.sensed.Sensed.{Sensed}
+use Rattle.book_entry.specs.declared.entry.Entry.{Entry as BookEntry}
+use Rattle.book_entry.specs.declared.entry.OwnInput.{OwnInput}
+use Rattle.book_entry.specs.declared.entry.OwnInput.TheVariants as own
+use Rattle.entry_step.specs.Given.{entry_of}
 use Rattle.node_core.specs.May.{may_of}
 use Rattle.node_core.specs.Node.{NodeState}
 use Rattle.node_core.specs.declared.act.Act.{Act}
@@ -15,6 +19,9 @@ use Rattle.node_run.specs.Steps.{MeetsSecond, Takes, TakesStep, refusing, steppe
 use Rattle.machine_log.specs.Texts.{lines_of}
 use Rattle.node_run.specs.declared.rules.Rules.{Rules}
 use Rattle.one_run.proofs.Nodes.{Alike, bytes_once, may_same, node_once, unspent}
+
+abbrev made_entry : List Sensed → OwnInput → ℤ → BookEntry
+made_entry sensed input moment = record { sensed = sensed; input = input; moment = moment }
 
 -- the same run with another machine
 abbrev pub like : RunState → NodeState → RunState
@@ -45,17 +52,17 @@ passed f passes s n text t t' log log' alike one two =
     let P : NodeState → Type 0 = λ m. Alike m n in
     becomes (f s) n text t t' log log' (subst P (sym (passes.node s)) alike) one (two.0 ∙ passes.same s n, two.1)
 
-taken : (asked : Bool) (rules : Rules) (s : RunState) (n node node' : NodeState) (told told' : List Act) (t t' : RunState) (log log' : List ℕ) → StepsOnce (unspent node) (unspent node') told told'
-    → t ≡ stepped asked rules node told s → log ≡ lines_of rules.panel.drives s.turn rules.number told
-    → t' ≡ stepped asked rules node' told' (like s n) → log' ≡ lines_of rules.panel.drives s.turn rules.number told' → Once t t' log log'
-taken asked rules s n node node' told told' t t' log log' once after lines after' lines' =
-    becomes (stepped asked rules node told s) node' (lines_of rules.panel.drives s.turn rules.number told) t t' log log' once.alike (after, lines)
-    (after' ∙ ap (λ (acts : List Act). stepped asked rules node' acts (like s n)) once.same, lines' ∙ ap (lines_of rules.panel.drives s.turn rules.number) once.same)
+taken : (asked : Bool) (rules : Rules) (entry entry' : BookEntry) (s : RunState) (n node node' : NodeState) (told told' : List Act) (t t' : RunState) (log log' : List ℕ) → entry' ≡ entry → StepsOnce (unspent node) (unspent node') told told'
+    → t ≡ stepped asked rules entry node told s → log ≡ lines_of rules.panel.drives s.turn rules.number told
+    → t' ≡ stepped asked rules entry' node' told' (like s n) → log' ≡ lines_of rules.panel.drives s.turn rules.number told' → Once t t' log log'
+taken asked rules entry entry' s n node node' told told' t t' log log' same once after lines after' lines' =
+    becomes (stepped asked rules entry node told s) node' (lines_of rules.panel.drives s.turn rules.number told) t t' log log' once.alike (after, lines)
+    (after' ∙ ap (λ (e : BookEntry). stepped asked rules e node' told' (like s n)) same ∙ ap (λ (acts : List Act). stepped asked rules entry node' acts (like s n)) once.same, lines' ∙ ap (lines_of rules.panel.drives s.turn rules.number) once.same)
 
 pub step_once : (asked : Bool) (rules : Rules) (moment : ℤ) (sensed : List Sensed) (input : Input) (s : RunState) (n : NodeState) (t t' : RunState) (log log' : List ℕ) → IsDry input → Alike s.node n
     → TakesStep asked rules moment sensed input s t log → TakesStep asked rules moment sensed input (like s n) t' log' → Once t t' log log'
 step_once asked rules moment sensed input s n t t' log log' dry alike one two =
-    taken asked rules s n one.node two.node one.told two.told t t' log log' (node_once s.node n one.node two.node sensed input moment one.told two.told alike dry one.steps two.steps) one.after one.lines two.after two.lines
+    taken asked rules (entry_of sensed input moment) (entry_of sensed input moment) s n one.node two.node one.told two.told t t' log log' refl (node_once s.node n one.node two.node sensed input moment one.told two.told alike dry one.steps two.steps) one.after one.lines two.after two.lines
 
 takes_by : (may : Result (Unit {0}) No) (rules : Rules) (moment : ℤ) (input : Input) (from s : RunState) (n : NodeState) (t t' : RunState) (log log' : List ℕ) → IsDry input → Alike from.node n → Alike s.node n
     → Takes may rules moment input from s t log → Takes may rules moment input (like from n) (like s n) t' log' → Once t t' log log'
@@ -69,10 +76,13 @@ takes_once rules moment input from s n t t' log log' dry alike same one two =
     takes_by (may_of s.node input) rules moment input from s n t t' log log' dry alike same one (subst P (may_same input s.node n same) two)
 
 -- bytes are heard
+same_entry : (side : Side) (moment : ℤ) (piece piece' : Bor (List ℕ)) → piece'.now ≡ piece.now → entry_of [] (inputs.Bytes side piece') moment ≡ entry_of [] (inputs.Bytes side piece) moment
+same_entry side moment piece piece' same = ap (λ (bytes : List ℕ). made_entry [] (own.Bytes side bytes) moment) same
+
 bytes_by : OneMeaning → (may : Result (Unit {0}) No) (rules : Rules) (moment : ℤ) (side : Side) (piece piece' : Bor (List ℕ)) (s : RunState) (n : NodeState) (t t' : RunState) (log log' : List ℕ) → piece'.now ≡ piece.now → Alike s.node n
     → Takes may rules moment (inputs.Bytes side piece) s s t log → Takes may rules moment (inputs.Bytes side piece') (like s n) (like s n) t' log' → Once t t' log log'
 bytes_by law (Ok done) rules moment side piece piece' s n t t' log log' same alike one two =
-    taken false rules s n one.node two.node one.told two.told t t' log log' (bytes_once law side s.node n one.node two.node [] piece piece' moment one.told two.told alike same one.steps two.steps) one.after one.lines two.after two.lines
+    taken false rules (entry_of [] (inputs.Bytes side piece) moment) (entry_of [] (inputs.Bytes side piece') moment) s n one.node two.node one.told two.told t t' log log' (same_entry side moment piece piece' same) (bytes_once law side s.node n one.node two.node [] piece piece' moment one.told two.told alike same one.steps two.steps) one.after one.lines two.after two.lines
 bytes_by law (Err why) rules moment side piece piece' s n t t' log log' same alike one two = becomes s n [] t t' log log' alike one two
 
 pub takes_bytes : OneMeaning → (rules : Rules) (moment : ℤ) (side : Side) (piece piece' : Bor (List ℕ)) (s : RunState) (n : NodeState) (t t' : RunState) (log log' : List ℕ) → piece'.now ≡ piece.now → Alike s.node n
@@ -82,17 +92,17 @@ takes_bytes law rules moment side piece piece' s n t t' log log' same alike one 
     bytes_by law (may_of s.node (inputs.Bytes side piece)) rules moment side piece piece' s n t t' log log' same alike one (subst P (may_same (inputs.Bytes side piece) s.node n alike) two)
 
 -- a second connection
-meets : (rules : Rules) (s : RunState) (n node node' : NodeState) (told told' : List Act) (t t' : RunState) (log log' : List ℕ) → StepsOnce (unspent node) (unspent node') told told'
-    → t ≡ refusing rules node told s → log ≡ lines_of rules.panel.drives s.turn rules.number told
-    → t' ≡ refusing rules node' told' (like s n) → log' ≡ lines_of rules.panel.drives s.turn rules.number told' → Once t t' log log'
-meets rules s n node node' told told' t t' log log' once after lines after' lines' =
-    becomes (refusing rules node told s) node' (lines_of rules.panel.drives s.turn rules.number told) t t' log log' once.alike (after, lines)
-    (after' ∙ ap (λ (acts : List Act). refusing rules node' acts (like s n)) once.same, lines' ∙ ap (lines_of rules.panel.drives s.turn rules.number) once.same)
+meets : (rules : Rules) (entry : BookEntry) (s : RunState) (n node node' : NodeState) (told told' : List Act) (t t' : RunState) (log log' : List ℕ) → StepsOnce (unspent node) (unspent node') told told'
+    → t ≡ refusing rules entry node told s → log ≡ lines_of rules.panel.drives s.turn rules.number told
+    → t' ≡ refusing rules entry node' told' (like s n) → log' ≡ lines_of rules.panel.drives s.turn rules.number told' → Once t t' log log'
+meets rules entry s n node node' told told' t t' log log' once after lines after' lines' =
+    becomes (refusing rules entry node told s) node' (lines_of rules.panel.drives s.turn rules.number told) t t' log log' once.alike (after, lines)
+    (after' ∙ ap (λ (acts : List Act). refusing rules entry node' acts (like s n)) once.same, lines' ∙ ap (lines_of rules.panel.drives s.turn rules.number) once.same)
 
 second_by : (may : Result (Unit {0}) No) (rules : Rules) (moment : ℤ) (input : Input) (s : RunState) (n : NodeState) (t t' : RunState) (log log' : List ℕ) → IsDry input → Alike s.node n
     → MeetsSecond may rules moment input s t log → MeetsSecond may rules moment input (like s n) t' log' → Once t t' log log'
 second_by (Ok done) rules moment input s n t t' log log' dry alike one two =
-    meets rules s n one.node two.node one.told two.told t t' log log' (node_once s.node n one.node two.node [] input moment one.told two.told alike dry one.steps two.steps) one.after one.lines two.after two.lines
+    meets rules (entry_of [] input moment) s n one.node two.node one.told two.told t t' log log' (node_once s.node n one.node two.node [] input moment one.told two.told alike dry one.steps two.steps) one.after one.lines two.after two.lines
 second_by (Err why) rules moment input s n t t' log log' dry alike one two = becomes s n [] t t' log log' alike one two
 
 pub second_once : (rules : Rules) (moment : ℤ) (input : Input) (s : RunState) (n : NodeState) (t t' : RunState) (log log' : List ℕ) → IsDry input → Alike s.node n
