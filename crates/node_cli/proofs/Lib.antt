@@ -2,3 +2,4 @@ pub mod Answering
 pub mod Bounds
 pub mod Files
 pub mod Doing
+pub mod Beginning
