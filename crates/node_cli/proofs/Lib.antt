@@ -3,3 +3,4 @@ pub mod Bounds
 pub mod Files
 pub mod Doing
 pub mod Beginning
+pub mod BookAnswering

@@ -4,3 +4,4 @@ pub mod Ends
 pub mod Logged
 pub mod BookEnds
 pub mod Books
+pub mod BookAnswered

@@ -1,14 +1,17 @@
 ghost use Rattle.std.specs.Prelude.{◌≡◌, ◌≤◌, ◌<◌, ◌^◌, IfOk};
 ghost use Rattle.joined_nodes.specs.Laws.{NodesStand};
 ghost use Rattle.joined_ports.specs.Poured.{PouredStand};
+ghost use Rattle.kept_runs.specs.Anew.{KeptLogTellsOwn, KeptRunsAreRuns, NewMachinesRunAsEver};
+ghost use Rattle.kept_runs.specs.First.{CallsComeFirst};
+ghost use Rattle.kept_runs.specs.Kept.{EachKeptRunIsOne};
+ghost use Rattle.node_cli.specs.BookAnswered.{EachBookInputHasOneAnswer, IsBookAnswered, counts};
 ghost use Rattle.node_cli.specs.Books.{CutsAndRuns, DoesNodeBook, DoesTold, FitsNodeBook, HasBookCauses, HasRestCauses, IsRestStatus, StopsBeginAgain, book_status, outside};
 ghost use Rattle.node_cli.specs.Command.{is_one};
-ghost use Rattle.node_cli.specs.Logged.{LogTellsOwn, TextIsBounded};
+ghost use Rattle.node_cli.specs.Logged.{TextIsBounded};
 ghost use Rattle.node_connections.specs.Connections.{ConnectionsAreInOrder};
 ghost use Rattle.node_run.specs.Booked.{most_book};
 ghost use Rattle.node_run.specs.Settled.{SettingsAreTheLast};
 ghost use Rattle.node_run.specs.Told.{profile_of};
-ghost use Rattle.one_run.specs.One.{EachPartIsAFront, EachRunIsOne};
 ghost use Rattle.restart_book.specs.Exactly.{EachBookHasOneAnswer};
 ghost use Rattle.running_line.specs.Reading.{Behind};
 
@@ -49,26 +52,44 @@ pub fn node_book_main<S: Source, P: Ports, C: Clock, K: Sink, B: Keeper>(
     ensures causes { HasBookCauses result (S.faults file.old) (S.faults file.new)
         (P.faults ports.old) (P.faults ports.new) (K.faults log.old) (K.faults log.new)
         (B.faults book.old) (B.faults book.new) }
-    // a book leads to one machine, or is bad at one place for one reason: so it is refused exactly
-    // there, and only where it can't be resumed
+    // in one sentence: the answer is the one that the words, the bytes of the file and of the book, the
+    // moments and what the ports answered have, or a fault of file, log or book whose count rose, or Memory
+    ensures complete { IsBookAnswered (is_one words.now) (S.left file.old) (B.left book.old)
+        (C.moment clock.old) (outside (P.given ports.old) (K.contents log.old) (B.contents book.old))
+        (outside (P.given ports.new) (K.contents log.new) (B.contents book.new))
+        (counts (S.faults file.old) (K.faults log.old) (B.faults book.old))
+        (counts (S.faults file.new) (K.faults log.new) (B.faults book.new)) result }
+    // and these have one at most, with one list of calls, one log and one change of the book
+    ensures determined { EachBookInputHasOneAnswer }
+    // since a book leads to one machine, or is bad at one place for one reason
     ensures one_book { EachBookHasOneAnswer }
+    // and a run over a book is one
+    ensures one_kept { EachKeptRunIsOne }
+    // the call of a move comes before its step: none follows from a step whose entry isn't in the book
+    ensures first { CallsComeFirst }
     // whatever a run has kept, the machine begins again from it where its last step led
     ensures again { StopsBeginAgain }
-    // and of runs without a book, from any state or from the first of a machine, what `node_main` has
-    ensures one { EachRunIsOne }
-    ensures part { EachPartIsAFront }
-    ensures owns { LogTellsOwn }
+    // what the machine owns is read off the bytes of the log
+    ensures owns { KeptLogTellsOwn }
+    // behind turn 0 the run is one as without a book, and that of a new machine is so from its beginning
+    ensures as_ever { KeptRunsAreRuns }
+    ensures anew { NewMachinesRunAsEver }
+    // so the sentences of `node_main` hold: of each way of a run; where the neighbours are, of one behind
+    // turn 0; of connections and of neighbours that run so too, of one that a new machine began
     ensures bounded { TextIsBounded }
     ensures settles { SettingsAreTheLast }
     ensures connections { ConnectionsAreInOrder }
     ensures neighbours { NodesStand Behind }
     ensures over_tcp { PouredStand Behind }
 {
-    node_run::laws::what_a_machine_owns_is_read_off_its_log();
+    kept_runs::laws::what_a_machine_owns_is_read_off_its_log();
+    kept_runs::laws::behind_turn_0_a_run_is_as_ever();
+    kept_runs::laws::a_new_machine_runs_as_ever();
     node_run::laws::too_much_text_closes_a_way();
     node_run::laws::the_settings_are_those_of_the_last_set();
     node_run::laws::the_entries_are_the_steps();
-    one_run::laws::a_run_is_one();
+    kept_runs::laws::a_run_over_a_book_is_one();
+    kept_runs::laws::the_call_of_a_move_comes_before_its_step();
     node_connections::laws::the_bytes_of_a_connection_are_in_order();
     joined_nodes::laws::woven_nodes_run_behind_the_reading();
     joined_ports::laws::what_carries_bytes_in_order_is_enough();
