@@ -1,13 +1,15 @@
-//! The program `node`. It makes the words, the file, the ports, the clock and the log of the
-//! host's, and hands them to `node_main`; and standard error to `tell_end`.
+//! The program `node`. It makes the words, the file, the ports, the clock, the log and the book of the
+//! host's, and hands them to `node_book_main`; and standard error to `tell_book_end`.
 #![tactic(auto)]
 
+mod book;
 mod file;
 
+use crate::book::NodeBook;
 use crate::file::SettingsFile;
 use line_base::{Memory, Word, Words};
 use line_outside::{HostClock, SocketPorts, WriterSink};
-use node_cli::{NodeStatus, node_main, tell_end};
+use node_cli::{BookStatus, NodeStatus, node_book_main, tell_book_end};
 use std::alloc::AllocError;
 use std::net::Net;
 use std::process::ExitCode;
@@ -17,13 +19,13 @@ use std::{env, io};
 fn main(rt: HostRuntime) -> ExitCode {
     let status = match run(&rt) {
         Ok(status) => status,
-        Err(Memory) => NodeStatus::Memory,
+        Err(Memory) => BookStatus::Node(NodeStatus::Memory),
     };
-    let _told = tell_end(rt.alloc(), status, &mut WriterSink::new(rt.stderr()));
+    let _told = tell_book_end(rt.alloc(), status, &mut WriterSink::new(rt.stderr()));
     ExitCode::from(status.exit_number())
 }
 
-fn run<R>(rt: &R) -> Result<NodeStatus, Memory>
+fn run<R>(rt: &R) -> Result<BookStatus, Memory>
 where
     R: Net + Clock + Clone + Drop + Env + Files + Print + AllocGlobal,
 {
@@ -32,13 +34,15 @@ where
     let mut ports = SocketPorts::new(copy_of(rt)?);
     let mut clock = HostClock::new(copy_of(rt)?);
     let mut log = WriterSink::new(io::writer(rt));
-    Ok(node_main(
+    let mut book = NodeBook::beside(rt.alloc(), copy_of(rt)?, &words)?;
+    Ok(node_book_main(
         rt.alloc(),
         &words,
         &mut file,
         &mut ports,
         &mut clock,
         &mut log,
+        &mut book,
     ))
 }
 

@@ -24,6 +24,7 @@ pub record AreBounded (settings : Settings) : Type 0 where
   pub most : settings.places.capacity ≤ 1024
   pub used : settings.places.used < 2 ^ 48
   pub number : settings.identity.number < 2 ^ 32
+  pub turns : 1 ≤ settings.turns
 
 -- ---- results one after another
 
@@ -100,7 +101,8 @@ settings_bounded ms settings e =
     let five = then_ok-inverse (turns_of ms) _ settings four.2 in
     let six = mapped_ok-inverse (made_settings one.0 two.0 three.0 four.0 five.0) (known_panel_of ms) settings five.2 in
     let places = places_bounded ms two.0 two.1 in
-    subst AreBounded six.2 (record { least = places.least; most = places.most; used = places.used; number = identity_bounded ms one.0 one.1 })
+    let turns = required_between 1 1000000000000 (get_member (codes "turns") ms) five.0 (named-inverse keys.Turns _ five.0 five.1) in
+    subst AreBounded six.2 (record { least = places.least; most = places.most; used = places.used; number = identity_bounded ms one.0 one.1; turns = turns.0 })
 
 in_bounded : (document : Option Members) (settings : Settings) → settings_in document ≡ Ok settings → AreBounded settings
 in_bounded None settings e = cc

@@ -2,3 +2,5 @@ pub mod Answering
 pub mod Bounds
 pub mod Files
 pub mod Doing
+pub mod Beginning
+pub mod BookAnswering

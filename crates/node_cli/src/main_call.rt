@@ -109,7 +109,7 @@ fn run_named<S: Source, P: Ports, C: Clock, K: Sink>(
 }
 
 /// How the program ends where the settings could not be read.
-fn status_of(error: SettingsError) -> NodeStatus
+pub fn status_of(error: SettingsError) -> NodeStatus
     ensures { result ≡ status_of error }
 {
     match error {

@@ -1,10 +1,11 @@
 use crate::answers::answer_of;
+use crate::books::{book_of, tell_book};
 use crate::calls::{tell_calls, written};
 use crate::ends::{tell_named, tell_status};
 use case_text::spell;
 use line_base::{Memory, Moment, Word, Words};
 use line_outside::{FixedClock, MemoryPorts, MemorySink, MemorySource, PortAnswer};
-use node_cli::{NodeStatus, node_main};
+use node_cli::{BookStatus, NodeStatus, node_book_main};
 use std::alloc::Global;
 use std::io::Write;
 
@@ -16,8 +17,8 @@ const TOLD_BYTES: usize = 4_000_000;
 /// How many bytes of the log are kept.
 const LOG_BYTES: usize = 4_000_000;
 
-/// Tells a case: its first line, the calls of the ports, the log, how the run ends, and what is
-/// said of that. A first line `an end: NAME` is a case of the end of that name alone.
+/// Tells a case: its first line, the calls of the ports, the log, the book where the case has one, how
+/// the run ends, and what is said of that. A first line `an end: NAME` is a case of the end of that name alone.
 pub fn tell_case(alloc: Global, case: &str, to: &mut Vec<u8>) -> Result<(), Memory> {
     let (head, body) = case.split_once('\n').unwrap_or((case, ""));
     written(write!(to, "=== {head}\n"))?;
@@ -43,12 +44,16 @@ fn tell_run(
     let mut ports = ports_of(alloc, answers.as_slice(), faults)?;
     let mut log = MemorySink::new(alloc, LOG_BYTES, pushes_of(faults))?;
     let mut clock = FixedClock::new(Moment::of_millis(0));
-    let status = node_main(alloc, &words, &mut file, &mut ports, &mut clock, &mut log);
-    if status == NodeStatus::Memory {
+    let mut book = book_of(alloc, body, faults)?;
+    let status = node_book_main(
+        alloc, &words, &mut file, &mut ports, &mut clock, &mut log, &mut book,
+    );
+    if status == BookStatus::Node(NodeStatus::Memory) {
         return Err(Memory);
     }
     tell_ports(&ports, to)?;
     tell_log(&log, to)?;
+    tell_book(&book, body, to)?;
     tell_status(alloc, status, &[], to)
 }
 
@@ -62,11 +67,11 @@ fn words_of(alloc: Global, text: &str) -> Result<Words, Memory> {
     Ok(words)
 }
 
-/// The settings file: the lines that don't begin with `<`.
+/// The settings file: the lines that begin neither with `<` nor with `@`.
 fn settings_of(alloc: Global, body: &str) -> Result<Vec<u8>, Memory> {
     let mut bytes = Vec::new(alloc);
     for line in body.lines() {
-        if !line.starts_with("< ") {
+        if !line.starts_with("< ") && !line.starts_with("@ ") {
             spell(line, &mut bytes)?;
             append(b"\n", &mut bytes)?;
         }

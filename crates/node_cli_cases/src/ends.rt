@@ -3,7 +3,7 @@
 use crate::calls::{tell_address, written};
 use line_base::Memory;
 use line_outside::{Address, MemorySink};
-use node_cli::{ConfigKey, ConfigWhy, NodeStatus, tell_end};
+use node_cli::{BookStatus, BookWhy, ConfigKey, ConfigWhy, NodeStatus, tell_book_end};
 use std::alloc::Global;
 use std::io::Write;
 
@@ -20,8 +20,20 @@ pub fn tell_named(
     tell_status(alloc, status_of(name), faults, to)
 }
 
-/// An end by its name. Those that name a part name the lane and an address.
-fn status_of(name: &str) -> NodeStatus {
+/// An end by its name. Those that name a part name the lane, an address, and a byte of the book.
+fn status_of(name: &str) -> BookStatus {
+    match name {
+        "BookFault" => BookStatus::BookFault,
+        "BookRefused" => BookStatus::BookRefused {
+            at: 1507,
+            why: BookWhy::NotPossible,
+        },
+        "BookFull" => BookStatus::BookFull,
+        name => BookStatus::Node(node_status_of(name)),
+    }
+}
+
+fn node_status_of(name: &str) -> NodeStatus {
     match name {
         "Usage" => NodeStatus::Usage,
         "ConfigRefused" => NodeStatus::ConfigRefused(ConfigKey::Lane, ConfigWhy::OutOfRange),
@@ -40,13 +52,13 @@ fn status_of(name: &str) -> NodeStatus {
 /// Tells how a run ends, and what is said of it.
 pub fn tell_status(
     alloc: Global,
-    status: NodeStatus,
+    status: BookStatus,
     faults: &[u64],
     to: &mut Vec<u8>,
 ) -> Result<(), Memory> {
     name_status(status, to)?;
     let mut said = MemorySink::new(alloc, SAID_BYTES, faults)?;
-    let answer = tell_end(alloc, status, &mut said);
+    let answer = tell_book_end(alloc, status, &mut said);
     written(to.extend_from_slice(said.contents().unwrap_or(b"untold")))?;
     match answer {
         Ok(()) => Ok(()),
@@ -54,7 +66,17 @@ pub fn tell_status(
     }
 }
 
-fn name_status(status: NodeStatus, to: &mut Vec<u8>) -> Result<(), Memory> {
+fn name_status(status: BookStatus, to: &mut Vec<u8>) -> Result<(), Memory> {
+    match status {
+        BookStatus::Node(status) => name_node_status(status, to),
+        BookStatus::BookRefused { at, why } => {
+            written(write!(to, "--- BookRefused, {at}: {why:?}\n"))
+        }
+        status => written(write!(to, "--- {status:?}\n")),
+    }
+}
+
+fn name_node_status(status: NodeStatus, to: &mut Vec<u8>) -> Result<(), Memory> {
     match status {
         NodeStatus::ConfigRefused(key, why) => {
             written(write!(to, "--- ConfigRefused, {key}: {why:?}\n"))

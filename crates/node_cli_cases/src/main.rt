@@ -1,8 +1,9 @@
-//! Whole runs of the program `node` as cases: what it calls of its ports, what it logs, how it
-//! ends, and what is said of that.
+//! Whole runs of the program `node` as cases: what it calls of its ports, what it logs, what
+//! it keeps in its book, how it ends, and what is said of that.
 #![tactic(auto)]
 
 mod answers;
+mod books;
 mod calls;
 mod cases;
 mod ends;

@@ -1,17 +1,19 @@
 //! Cases of the restart book, a line each. `entry`, `cuts` and `changes` have bytes: the entry that
 //! they begin with, what each front of them is, and what becomes of them by each change of one byte.
 //! `resume`, `cut` and `changed` have a book: the machine that begins again from it, from each front
-//! of it, and from it with each change of one byte. `keep` has the room of a book in memory, the
+//! of it, and from it with each change of one byte. `log` has the log that it tells. `keep` has the room of a book in memory, the
 //! number of a call that fails, and the bytes that are kept one after another.
 #![tactic(auto)]
 
 mod books;
 mod entries;
 mod keeps;
+mod logs;
 
 use crate::books::{tell_changed, tell_cut, tell_resumed};
 use crate::entries::{tell_changes, tell_cuts, tell_entry};
 use crate::keeps::tell_kept;
+use crate::logs::tell_logged;
 use std::alloc::{AllocError, Global};
 use std::io;
 use std::io::Write;
@@ -49,6 +51,7 @@ fn tell_bytes(alloc: Global, word: &str, bytes: &[u8], to: &mut Vec<u8>) -> io::
         "resume" => tell_resumed(alloc, bytes, to),
         "cut" => tell_cut(alloc, bytes, to),
         "changed" => tell_changed(alloc, bytes, to),
+        "log" => tell_logged(alloc, bytes, to),
         _ => write!(to, "no case"),
     }
 }

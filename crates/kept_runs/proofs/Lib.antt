@@ -1,0 +1,6 @@
+pub mod Calling
+pub mod Ending
+pub mod Once
+pub mod Turning
+pub mod Staging
+pub mod Owning

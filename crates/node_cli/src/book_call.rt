@@ -1,0 +1,226 @@
+ghost use Rattle.std.specs.Prelude.{◌≡◌, ◌≤◌, ◌<◌, ◌^◌, IfOk};
+ghost use Rattle.joined_nodes.specs.Laws.{NodesStand};
+ghost use Rattle.joined_ports.specs.Poured.{PouredStand};
+ghost use Rattle.kept_runs.specs.Anew.{KeptLogTellsOwn, KeptRunsAreRuns, NewMachinesRunAsEver};
+ghost use Rattle.kept_runs.specs.First.{CallsComeFirst};
+ghost use Rattle.kept_runs.specs.Kept.{EachKeptRunIsOne};
+ghost use Rattle.node_cli.specs.BookAnswered.{EachBookInputHasOneAnswer, IsBookAnswered, counts};
+ghost use Rattle.node_cli.specs.Books.{CutsAndRuns, DoesNodeBook, DoesTold, FitsNodeBook, HasBookCauses, HasRestCauses, IsRestStatus, StopsBeginAgain, book_status, outside};
+ghost use Rattle.node_cli.specs.Command.{is_one};
+ghost use Rattle.node_cli.specs.Logged.{TextIsBounded};
+ghost use Rattle.node_connections.specs.Connections.{ConnectionsAreInOrder};
+ghost use Rattle.node_run.specs.Booked.{most_book};
+ghost use Rattle.node_run.specs.Settled.{SettingsAreTheLast};
+ghost use Rattle.node_run.specs.Told.{profile_of};
+ghost use Rattle.restart_book.specs.Exactly.{EachBookHasOneAnswer};
+ghost use Rattle.running_line.specs.Reading.{Behind};
+
+use crate::book_file::{BookError, read_book};
+use crate::book_status::BookStatus;
+use crate::main_call::status_of;
+use crate::settings_file::{FileError, read_file};
+use book_keeper::{Keeper, Kept2};
+use line_base::{Memory, Words};
+use line_outside::{Clock, Ports, Sink, Source};
+use node_core::NodeProfile;
+use node_run::{BookedStatus, NodeStatus, run_booked};
+use node_settings::{Settings, read_settings};
+use restart_book::{ResumeError, Resumed, resume};
+use std::alloc::Global;
+
+/// The program `node`: runs the machine that a settings file describes, from where its book leads.
+///
+/// As `node_main`; and `book` has an entry for each step that the machine made. The machine begins
+/// again from it: what follows its whole entries is cut off, and where the machine had a connection,
+/// or was supervised, it makes a step by which it knows that it has none any more. The entry of each
+/// further step is in the book before anything of that step goes out.
+pub fn node_book_main<S: Source, P: Ports, C: Clock, K: Sink, B: Keeper>(
+    alloc: Global,
+    words: &Words,
+    file: &mut S,
+    ports: &mut P,
+    clock: &mut C,
+    log: &mut K,
+    book: &mut B,
+) -> BookStatus
+    // over a file, ports, a log and a book that tell: the calls, the log, the book and the status are
+    // those of the run from where the book leads, each of its moves at a moment of the clock
+    ensures does { DoesNodeBook (is_one words.now) (S.left file.old) (B.left book.old)
+        (C.moment clock.old) (outside (P.given ports.old) (K.contents log.old) (B.contents book.old))
+        (outside (P.given ports.new) (K.contents log.new) (B.contents book.new)) result }
+    ensures fits { FitsNodeBook (is_one words.now) result }
+    ensures causes { HasBookCauses result (S.faults file.old) (S.faults file.new)
+        (P.faults ports.old) (P.faults ports.new) (K.faults log.old) (K.faults log.new)
+        (B.faults book.old) (B.faults book.new) }
+    // in one sentence: the answer is the one that the words, the bytes of the file and of the book, the
+    // moments and what the ports answered have, or a fault of file, log or book whose count rose, or Memory
+    ensures complete { IsBookAnswered (is_one words.now) (S.left file.old) (B.left book.old)
+        (C.moment clock.old) (outside (P.given ports.old) (K.contents log.old) (B.contents book.old))
+        (outside (P.given ports.new) (K.contents log.new) (B.contents book.new))
+        (counts (S.faults file.old) (K.faults log.old) (B.faults book.old))
+        (counts (S.faults file.new) (K.faults log.new) (B.faults book.new)) result }
+    // and these have one at most, with one list of calls, one log and one change of the book
+    ensures determined { EachBookInputHasOneAnswer }
+    // since a book leads to one machine, or is bad at one place for one reason
+    ensures one_book { EachBookHasOneAnswer }
+    // and a run over a book is one
+    ensures one_kept { EachKeptRunIsOne }
+    // the call of a move comes before its step: none follows from a step whose entry isn't in the book
+    ensures first { CallsComeFirst }
+    // whatever a run has kept, the machine begins again from it where its last step led
+    ensures again { StopsBeginAgain }
+    // what the machine owns is read off the bytes of the log
+    ensures owns { KeptLogTellsOwn }
+    // behind turn 0 the run is one as without a book, and that of a new machine is so from its beginning
+    ensures as_ever { KeptRunsAreRuns }
+    ensures anew { NewMachinesRunAsEver }
+    // so the sentences of `node_main` hold: of each way of a run; where the neighbours are, of one behind
+    // turn 0; of connections and of neighbours that run so too, of one that a new machine began
+    ensures bounded { TextIsBounded }
+    ensures settles { SettingsAreTheLast }
+    ensures connections { ConnectionsAreInOrder }
+    ensures neighbours { NodesStand Behind }
+    ensures over_tcp { PouredStand Behind }
+{
+    kept_runs::laws::what_a_machine_owns_is_read_off_its_log();
+    kept_runs::laws::behind_turn_0_a_run_is_as_ever();
+    kept_runs::laws::a_new_machine_runs_as_ever();
+    node_run::laws::too_much_text_closes_a_way();
+    node_run::laws::the_settings_are_those_of_the_last_set();
+    node_run::laws::the_entries_are_the_steps();
+    kept_runs::laws::a_run_over_a_book_is_one();
+    kept_runs::laws::the_call_of_a_move_comes_before_its_step();
+    node_connections::laws::the_bytes_of_a_connection_are_in_order();
+    joined_nodes::laws::woven_nodes_run_behind_the_reading();
+    joined_ports::laws::what_carries_bytes_in_order_is_enough();
+    restart_book::laws::a_book_has_one_answer();
+    restart_book::laws::a_kept_book_is_resumed();
+    book_named(alloc, words, file, ports, clock, log, book)
+}
+
+/// Runs the machine whose settings stand in the file that the one word names.
+fn book_named<S: Source, P: Ports, C: Clock, K: Sink, B: Keeper>(
+    alloc: Global,
+    words: &Words,
+    file: &mut S,
+    ports: &mut P,
+    clock: &mut C,
+    log: &mut K,
+    book: &mut B,
+) -> BookStatus
+    ensures does { DoesNodeBook (is_one words.now) (S.left file.old) (B.left book.old)
+        (C.moment clock.old) (outside (P.given ports.old) (K.contents log.old) (B.contents book.old))
+        (outside (P.given ports.new) (K.contents log.new) (B.contents book.new)) result }
+    ensures fits { FitsNodeBook (is_one words.now) result }
+    ensures causes { HasBookCauses result (S.faults file.old) (S.faults file.new)
+        (P.faults ports.old) (P.faults ports.new) (K.faults log.old) (K.faults log.new)
+        (B.faults book.old) (B.faults book.new) }
+{
+    if words.list().len() != 1 {
+        return BookStatus::Node(NodeStatus::Usage);
+    }
+    let bytes = match read_file(alloc, file) {
+        Ok(bytes) => bytes,
+        Err(FileError::Fault) => return BookStatus::Node(NodeStatus::ReadFault),
+        Err(FileError::Memory) => return BookStatus::Node(NodeStatus::Memory),
+    };
+    match read_settings(alloc, bytes.as_slice()) {
+        Ok(settings) => begin_again(alloc, settings, ports, clock, log, book),
+        Err(error) => BookStatus::Node(status_of(error)),
+    }
+}
+
+/// Begins again from the book, and runs on.
+fn begin_again<P: Ports, C: Clock, K: Sink, B: Keeper>(
+    alloc: Global,
+    settings: Settings,
+    ports: &mut P,
+    clock: &mut C,
+    log: &mut K,
+    book: &mut B,
+) -> BookStatus
+    requires least { 1 ≤ settings.places.capacity }
+    requires most { settings.places.capacity ≤ 1024 }
+    requires used { settings.places.used < 2 ^ 48 }
+    requires turns { 1 ≤ settings.turns }
+    ensures does { DoesTold (C.moment clock.old) settings (B.left book.old)
+        (outside (P.given ports.old) (K.contents log.old) (B.contents book.old))
+        (outside (P.given ports.new) (K.contents log.new) (B.contents book.new)) result }
+    ensures fits { IsRestStatus result }
+    ensures causes { HasRestCauses result (P.faults ports.old) (P.faults ports.new)
+        (K.faults log.old) (K.faults log.new) (B.faults book.old) (B.faults book.new) }
+{
+    let bytes = match read_book(alloc, book) {
+        Ok(bytes) => bytes,
+        Err(BookError::Fault) => return BookStatus::BookFault,
+        Err(BookError::Full) => return BookStatus::BookFull,
+        Err(BookError::Memory) => return BookStatus::Node(NodeStatus::Memory),
+    };
+    let Ok(profile) = profile_of(alloc, &settings) else {
+        return BookStatus::Node(NodeStatus::Memory);
+    };
+    match resume(alloc, profile, bytes.as_slice()) {
+        Ok(resumed) => run_on(alloc, settings, resumed, ports, clock, log, book),
+        Err(ResumeError::Bad { at, why }) => BookStatus::BookRefused { at, why },
+        Err(ResumeError::Memory) => BookStatus::Node(NodeStatus::Memory),
+    }
+}
+
+/// Cuts off what follows the whole entries, and runs the machine on.
+fn run_on<P: Ports, C: Clock, K: Sink, B: Keeper>(
+    alloc: Global,
+    settings: Settings,
+    resumed: Resumed,
+    ports: &mut P,
+    clock: &mut C,
+    log: &mut K,
+    book: &mut B,
+) -> BookStatus
+    requires size { resumed.whole ≤ most_book }
+    requires turns { 1 ≤ settings.turns }
+    ensures does { CutsAndRuns (C.moment clock.old) settings resumed.node resumed.drives
+        resumed.whole (outside (P.given ports.old) (K.contents log.old) (B.contents book.old))
+        (outside (P.given ports.new) (K.contents log.new) (B.contents book.new)) result }
+    ensures fits { IsRestStatus result }
+    ensures causes { HasRestCauses result (P.faults ports.old) (P.faults ports.new)
+        (K.faults log.old) (K.faults log.new) (B.faults book.old) (B.faults book.new) }
+{
+    match book.cut(resumed.whole) {
+        Kept2::Done => status_of_run(run_booked(
+            alloc,
+            settings,
+            resumed.node,
+            resumed.drives,
+            resumed.whole,
+            ports,
+            clock,
+            log,
+            book,
+        )),
+        Kept2::Failed => BookStatus::BookFault,
+    }
+}
+
+fn status_of_run(status: BookedStatus) -> BookStatus
+    ensures { result ≡ book_status status }
+{
+    match status {
+        BookedStatus::Node(status) => BookStatus::Node(status),
+        BookedStatus::BookFault => BookStatus::BookFault,
+        BookedStatus::BookFull => BookStatus::BookFull,
+    }
+}
+
+/// What the machine of these settings is.
+fn profile_of(alloc: Global, settings: &Settings) -> Result<NodeProfile, Memory>
+    ensures { IfOk result (λ profile. profile ≡ profile_of settings.now) }
+{
+    Ok(NodeProfile {
+        number: settings.identity.number,
+        lane: settings.identity.lane,
+        machine: settings.identity.machine_id.copy(alloc)?,
+        capacity: settings.places.capacity,
+        used: settings.places.used,
+        bridge: settings.bridge,
+    })
+}
