@@ -48,11 +48,11 @@ step_of_listen address opens.Failed s = refl
 -- ---- by the move
 
 by_move : (rules : Rules) (moment : ℤ) (s t : RunState) (calls : List Given) (lines : List ℕ) → begins_again s ≡ false → Moves rules moment s calls t lines → makes_step s t ≡ true → CallsAgain rules s calls
-by_move rules moment s t calls lines begun (listens {address = address} {opened = opened} next) made = same_step s _ (CallsAgain rules s calls) (step_of_listen address opened s) made
-by_move rules moment s t calls lines begun (connects next) made = same_step s _ (CallsAgain rules s calls) refl made
+by_move rules moment s t calls lines begun (listens {address = address} {opened = opened} next) made = same_step s t (CallsAgain rules s calls) (step_of_listen address opened s) made
+by_move rules moment s t calls lines begun (connects next) made = same_step s t (CallsAgain rules s calls) refl made
 by_move rules moment s t calls lines begun (polls next after) made = calls_as_ever begun (polled next)
-by_move rules moment s t calls lines begun (sends {way = way} {sent = sent} next) made = same_step s _ (CallsAgain rules s calls) (step_of_send way sent (moved_on s)) made
-by_move rules moment s t calls lines begun (refuses next is) made = same_step s _ (CallsAgain rules s calls) refl made
+by_move rules moment s t calls lines begun (sends {way = way} {sent = sent} next) made = same_step s t (CallsAgain rules s calls) (step_of_send way sent (moved_on s)) made
+by_move rules moment s t calls lines begun (refuses next is) made = same_step s t (CallsAgain rules s calls) refl made
 by_move rules moment s t calls lines begun (closes next after) made = calls_as_ever begun (closed next)
 by_move rules moment s t calls lines begun (skips next) made = calls_none
 by_move rules moment s t calls lines begun (looks_again next after) made = calls_as_ever begun (polled_again next)

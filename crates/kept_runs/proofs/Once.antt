@@ -69,9 +69,9 @@ begins_same : (s t : RunState) → RunsAlike s t → begins_again t ≡ begins_a
 begins_same s t alike = ap begins_again alike.same
 
 never_both : (s t : RunState) (A : Type 0) → RunsAlike s t → begins_again s ≡ true → begins_again t ≡ false → A
-never_both s t A alike yes no =
+never_both s t A alike begun other =
     let same = begins_same s t alike in
-    let wrong : true ≡ false = sym yes ∙ sym same ∙ no in cc
+    let wrong : true ≡ false = sym begun ∙ sym same ∙ other in cc
 
 again_once : Laws → (rules : Rules) (moment : ℤ) (s s' : RunState) (calls more : List Given) (t t' : RunState) (log log' : List ℕ) → RunsAlike s s' → Agree (answers_of calls) (answers_of more)
     → MovesAgain rules moment s calls t log → MovesAgain rules moment s' more t' log' → MovesOnce t t' calls more log log'

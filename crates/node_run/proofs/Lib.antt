@@ -1,4 +1,4 @@
-mod Accounts
+pub mod Accounts
 pub mod Nexts
 pub mod Frames
 pub mod Heard
