@@ -9,7 +9,7 @@ use Rattle.std.proofs.lemmas.Grind.{common_steps}
 use Rattle.board_record.specs.declared.record.Record.{Record}
 use Rattle.board_record.specs.declared.sub_board.SubBoard.{SubBoard}
 use Rattle.board_record.specs.SubBoards.{is_full}
-use Rattle.node_core.specs.Boards.{IsFirstAt, first_passes, is_kept, takes_sub}
+use Rattle.node_core.specs.Boards.{IsFirstAt, first_kept, first_passes, is_kept, takes_sub}
 
 abbrev has : ℕ → Record → Bool
 has id board = board.id == id
@@ -18,6 +18,7 @@ here : (id : ℕ) (board : Record) (boards : List Record) → board.id == id ≡
 here id board boards is = record {
   within = omega arith;
   is_kept = rw is refl;
+  found = rw is refl;
   removed = rw is refl;
   replaced = λ other. rw is refl;
   marked = λ quality. rw is refl;
@@ -41,6 +42,7 @@ later : (id : ℕ) (board : Record) (boards : List Record) (k : ℕ) → board.i
 later id board boards k not first = record {
   within = omega (arith, first.within);
   is_kept = rw not first.is_kept;
+  found = rw not first.found;
   removed = rw not (ap (λ (xs : List Record). board ∷ xs) first.removed);
   replaced = λ other. rw not (ap (λ (xs : List Record). board ∷ xs) (first.replaced other));
   marked = λ quality. rw not (changed-later board boards k (λ r. record r { quality = quality }) (slice_get boards k) refl ∙ ap (λ (xs : List Record). board ∷ xs) (first.marked quality));
@@ -100,3 +102,28 @@ takes_kept id sub kept takes = passing_kept id (λ board. not (is_full board.sub
 
 pub position_roomless : (id : ℕ) (kept : List Record) → position (λ (b : Record). b.id == id) kept ≡ None → (sub : SubBoard) → takes_sub id sub kept ≡ false
 position_roomless id kept is sub = none_passes id (λ board. not (is_full board.subs sub)) kept (position_none id kept is)
+
+-- nor is one found
+none_found : (id : ℕ) (kept : List Record) → is_kept id kept ≡ false → first_kept id kept ≡ None
+none_found id [] none = refl
+none_found id (board ∷ boards) none = by (board.id == id) (none_found id boards) none where
+  by : (same : Bool) → (is_kept id boards ≡ false → first_kept id boards ≡ None)
+      → (if same then true else is_kept id boards) ≡ false
+      → (if same then Some board else first_kept id boards) ≡ None
+  by true later none = absurd (false≢true (sym none))
+  by false later none = later none
+
+pub position_missing : (id : ℕ) (kept : List Record)
+    → position (λ (b : Record). b.id == id) kept ≡ None → first_kept id kept ≡ None
+position_missing id kept is = none_found id kept (position_none id kept is)
+
+-- where none is found, none is kept
+pub found_none : (id : ℕ) (kept : List Record) → first_kept id kept ≡ None
+    → is_kept id kept ≡ false
+found_none id [] none = refl
+found_none id (board ∷ boards) none = by (board.id == id) (found_none id boards) none where
+  by : (same : Bool) → (first_kept id boards ≡ None → is_kept id boards ≡ false)
+      → (if same then Some board else first_kept id boards) ≡ None
+      → (if same then true else is_kept id boards) ≡ false
+  by true later none = cc
+  by false later none = later none

@@ -30,7 +30,7 @@ use Rattle.node_core.specs.Event.{Event, Insert, Replace, Level, with_new, event
 use Rattle.node_core.specs.Step.{StepsLane, Steps, machine_step}
 use Rattle.node_core.specs.Breaking.{IsBrokenOff}
 use Rattle.node_core.specs.Node.{NodeState, desk_of, new_body, first_body, first_levels}
-use Rattle.node_core.specs.May.{no_if, may_do, may_of, is_used_up}
+use Rattle.node_core.specs.May.{no_if, may_do, may_of, may_on_lane, is_used_up}
 use Rattle.node_core.specs.Own.{own_of, own_after}
 use Rattle.node_core.specs.Sound.{IsSound}
 use Rattle.node_core.proofs.Keeping.{SameWills, own_append}
@@ -56,6 +56,11 @@ passes true true up why other last is = refl
 passes true false up why other last is = cc
 passes false place up why other last is = cc
 
+gets_passes : (free place : Bool) (why other : No) → no_if (not free) why (no_if (not place) other may_do) ≡ may_do → place ≡ true
+gets_passes true true why other is = refl
+gets_passes true false why other is = cc
+gets_passes false place why other is = cc
+
 new_fits : (most : ℕ) (found : Result ℕ IdsUsedUp) (barcode : Option (List ℕ)) (body : Body) → used body < most → HasPlaceFor most (with_new found (λ id. Insert id barcode)) body
 new_fits most (Ok id) barcode body fits = fits
 new_fits most (Err why) barcode body fits = tt
@@ -64,8 +69,9 @@ pub other_fits : (most : ℕ) (found : Result ℕ IdsUsedUp) (old : ℕ) (body :
 other_fits most (Ok id) old body = tt
 other_fits most (Err why) old body = tt
 
-pub may_fits : (s : NodeState) (input : Input) (words : List Word) → may_of s input ≡ may_do → HasPlaceFor s.capacity (event_of s.maker input words) s.lane.body
+pub may_fits : (s : NodeState) (input : Input) (words : List Word) → may_on_lane s input ≡ may_do → HasPlaceFor s.capacity (event_of s.maker input words) s.lane.body
 may_fits s (inputs.Insert barcode) words may = new_fits s.capacity (next_id s.maker) barcode s.lane.body (below_from (used s.lane.body) s.capacity (passes (is_intake_free s.lane.body) (has_place (desk_of s (pos 0)) s.lane.body) (is_used_up s.maker.used) _ _ _ may))
+may_fits s (inputs.Gets board) words may = below_from (used s.lane.body) s.capacity (gets_passes (is_intake_free s.lane.body) (has_place (desk_of s (pos 0)) s.lane.body) _ _ may)
 may_fits s (inputs.Replace id) words may = other_fits s.capacity (next_id s.maker) id s.lane.body
 may_fits s _ words may = tt
 
@@ -129,21 +135,21 @@ numbered_by : (orders : List Order) (why other : No) (supervised : Bool)
 numbered_by orders why other true may = numbered_if (unanswered orders == 256) (length orders) other may
 numbered_by orders why other false may = cc
 
-pub numbered : (s : NodeState) (input : Input) (desk : Desk) → may_of s input ≡ may_do → desk.asked ≡ length s.orders
+pub numbered : (s : NodeState) (input : Input) (desk : Desk) → may_on_lane s input ≡ may_do → desk.asked ≡ length s.orders
     → HasNumber input desk
 numbered s (inputs.Ask question) desk may is = λ same. numbered_by s.orders _ _ s.supervised may (sym is ∙ same)
 numbered s _ desk may is = tt
 
 -- ---- what a step keeps
 
-pub sound_after : (s t : NodeState) (unread : List Sensed) (input : Input) (moment : ℤ) (acts : List Act) → may_of s input ≡ may_do → Steps s unread input moment t acts → IsSound s.capacity s.lane.body → IsSound t.capacity t.lane.body
+pub sound_after : (s t : NodeState) (unread : List Sensed) (input : Input) (moment : ℤ) (acts : List Act) → may_on_lane s input ≡ may_do → Steps s unread input moment t acts → IsSound s.capacity s.lane.body → IsSound t.capacity t.lane.body
 sound_after s t unread input moment acts may steps sound =
     let lane = steps.lane in
     subst (λ (most : ℕ). IsSound most t.lane.body) (sym steps.capacity)
     (subst (λ (b : Body). IsSound s.capacity b) (sym lane.body)
     (step_sound (desk_of s moment) unread (event_of s.maker input lane.words) s.lane.body (may_fits s input lane.words may) sound))
 
-pub owns_after : (s t : NodeState) (unread : List Sensed) (input : Input) (moment : ℤ) (acts : List Act) → may_of s input ≡ may_do → Steps s unread input moment t acts → own_of t.lane.body ≡ own_after (own_of s.lane.body) acts
+pub owns_after : (s t : NodeState) (unread : List Sensed) (input : Input) (moment : ℤ) (acts : List Act) → may_on_lane s input ≡ may_do → Steps s unread input moment t acts → own_of t.lane.body ≡ own_after (own_of s.lane.body) acts
 owns_after s t unread input moment acts may steps =
     let lane = steps.lane in
     let own = own_of s.lane.body in
@@ -226,7 +232,7 @@ new_willess : (found : Result ℕ IdsUsedUp) (event : ℕ → Event) → ((id : 
 new_willess (Ok id) event none = none id
 new_willess (Err why) event none = tt
 
-willing_by : (s : NodeState) (before : BridgeLevels) (unread : List Sensed) (input : Input) (moment : ℤ) (words : List Word) → s.bridge ≡ Some before → may_of s input ≡ may_do → IsWillingBy before s.lane.body
+willing_by : (s : NodeState) (before : BridgeLevels) (unread : List Sensed) (input : Input) (moment : ℤ) (words : List Word) → s.bridge ≡ Some before → may_on_lane s input ≡ may_do → IsWillingBy before s.lane.body
     → IsWillingBy (after_level input before) (machine_step (desk_of s moment) unread (event_of s.maker input words) s.lane.body).body
 willing_by s before unread (inputs.Level line on) moment words there may is = by_levels (desk_of s moment) unread line on before s.lane.body is
 willing_by s before unread (inputs.Will side on) moment words there may is = absurd (let h = rw there at may in cc)
@@ -237,14 +243,22 @@ willing_by s before unread (inputs.Replace old) moment words there may is =
 willing_by s before unread input moment words there may is = by_others (desk_of s moment) unread (event_of s.maker input words) before s.lane.body tt is
 
 -- the segment's levels are as the input leaves them
-willing_levels : (s : NodeState) (bridge : Option BridgeLevels) (unread : List Sensed) (input : Input) (moment : ℤ) (words : List Word) (after : Body) → s.bridge ≡ bridge → may_of s input ≡ may_do → IsWilling bridge s.lane.body
+willing_levels : (s : NodeState) (bridge : Option BridgeLevels) (unread : List Sensed) (input : Input) (moment : ℤ) (words : List Word) (after : Body) → s.bridge ≡ bridge → may_on_lane s input ≡ may_do → IsWilling bridge s.lane.body
     → after ≡ (machine_step (desk_of s moment) unread (event_of s.maker input words) s.lane.body).body → IsWilling (levels_after input after bridge) after
 willing_levels s None unread input moment words after there may is same = tt
 willing_levels s (Some before) unread input moment words after there may is same =
     let one = subst (λ (b : Body). IsWillingBy (after_level input before) b) (sym same) (willing_by s before unread input moment words there may is) in
     record { entry = one.entry; exit = one.exit }
 
-pub willing_after : (s t : NodeState) (unread : List Sensed) (input : Input) (moment : ℤ) (acts : List Act) → may_of s input ≡ may_do → Steps s unread input moment t acts → IsWilling s.bridge s.lane.body → IsWilling t.bridge t.lane.body
+pub willing_after : (s t : NodeState) (unread : List Sensed) (input : Input) (moment : ℤ) (acts : List Act) → may_on_lane s input ≡ may_do → Steps s unread input moment t acts → IsWilling s.bridge s.lane.body → IsWilling t.bridge t.lane.body
 willing_after s t unread input moment acts may steps is =
     subst (λ (b : Option BridgeLevels). IsWilling b t.lane.body) (sym steps.bridge)
     (willing_levels s s.bridge unread input moment steps.lane.words t.lane.body refl may is steps.lane.body)
+
+-- ---- what a machine of one lane may be given it may be given on a lane of several
+
+pub may_alone : (s : NodeState) (input : Input) → may_of s input ≡ may_do → may_on_lane s input ≡ may_do
+may_alone s (inputs.Gives id to) may = cc
+may_alone s (inputs.Gets board) may = cc
+may_alone s inputs.Nothing may = may
+may_alone s _ may = may

@@ -9,6 +9,7 @@ pub mod KeptIds
 pub mod Telling
 pub mod Signalling
 pub mod Sound
+pub mod Staying
 pub mod Stepping
 pub mod Breaking
 pub mod Lasting

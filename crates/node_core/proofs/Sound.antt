@@ -41,13 +41,13 @@ use Rattle.node_core.specs.Sides.{session_at, is_open, is_standing}
 use Rattle.node_core.specs.Halves.{OffersFront, settled, outlet_row_did, intake_row_did, ended}
 use Rattle.node_core.specs.Reads.{saw, reads, all_read}
 use Rattle.node_core.specs.Connect.{opens, notices, ticks, shuts_down}
-use Rattle.node_core.specs.Boards.{without, with_changed, with_instead, with_mark, with_sub, is_kept, takes_sub, if_kept, removes, replaces, marks, adds_sub, inserts, faults, wills}
+use Rattle.node_core.specs.Boards.{without, with_changed, with_instead, with_mark, with_sub, is_kept, takes_sub, if_kept, removes, replaces, marks, adds_sub, gets, gives, inserts, faults, wills}
 use Rattle.node_core.specs.Bridge.{with_level_will, failed_front, fails, sets_level}
 use Rattle.node_core.specs.Information.{forecasts, asks_for}
 use Rattle.node_core.specs.Places.{used, place_for, has_place}
 use Rattle.node_core.specs.Announces.{is_free, is_intake_free, is_front, revokes_now, revoke_by, revoke, unreadies_now, unready_by, unready, offers_now, offer_by, offer, readies_now, ready_by, ready, starts_now, start_by, start, announces}
 use Rattle.node_core.specs.Words.{word_did}
-use Rattle.node_core.specs.Event.{Event, Nothing, Connect, Accepted, Second, Words, Notice, Tick, Shutdown, Fault, Will, Level, Insert, Remove, Replace, Mark, Sub, Forecast, Query, Supervised, event_did}
+use Rattle.node_core.specs.Event.{Event, Nothing, Connect, Accepted, Second, Words, Notice, Tick, Shutdown, Fault, Will, Level, Insert, Remove, Replace, Mark, Sub, Forecast, Query, Supervised, Gives, Gets, event_did}
 use Rattle.node_core.specs.Supervising.{Supervision, Supervise, Ask, Answer, supervises, watch_of, with_tells}
 use Rattle.node_core.specs.declared.supervising.Watch.{Watch}
 use Rattle.node_core.specs.Step.{machine_step, plain_step}
@@ -194,6 +194,19 @@ inserts_keeps most desk id barcode body fits = record {
   owns = ap (λ (ids : List ℕ). record (own_of body) { kept = ids }) (ids_behind body.kept (plain_record id desk.name barcode));
 }
 
+gives_keeps : (most id to : ℕ) (body : Body) → KeepsLoosely most body (gives id to body)
+gives_keeps most id to body =
+    let fewer : length (without id body.kept) ≤ length body.kept = omega (arith, sym (length_ids (without id body.kept)) ∙ ap length (sym (ids_without id body.kept)), length_without id (ids_of body.kept), length_ids body.kept) in
+    where_kept most (is_kept id body.kept) body _ (acts.Gives id to) (by_hand most body (without id body.kept) (acts.Gives id to) fewer (ap (λ (ids : List ℕ). record (own_of body) { kept = ids }) (ids_without id body.kept)))
+
+gets_keeps : (most : ℕ) (board : Record) (body : Body) → used body < most → KeepsLoosely most body (gets board body)
+gets_keeps most board body fits = record {
+  offers = λ h. offer_idle body h;
+  parts = record { entry = refl; exit = refl };
+  places = λ _. one_more body.kept board (place_for (held body.outlet)) (place_for (in_held body.intake)) most fits;
+  owns = ap (λ (ids : List ℕ). record (own_of body) { kept = ids }) (ids_behind body.kept board);
+}
+
 wills_keeps : (most : ℕ) (side : Side) (on : Bool) (body : Body) → KeepsLoosely most body (wills side on body)
 wills_keeps most Entry on body = record { offers = λ h. offer_idle body h; parts = record { entry = refl; exit = refl }; places = λ h. h; owns = refl }
 wills_keeps most Exit on body = record { offers = λ h. offer_idle body h; parts = record { entry = refl; exit = refl }; places = λ h. h; owns = refl }
@@ -231,6 +244,7 @@ supervises_keeps most desk (Answer query order) body = keeps_told most body _ (�
 -- a board is put in only where there is a place
 abbrev pub HasPlaceFor : ℕ → Event → Body → Type 0
 HasPlaceFor most (Insert id barcode) body = used body < most
+HasPlaceFor most (Gets board) body = used body < most
 HasPlaceFor most _ body = Unit {0}
 
 event_keeps : (most : ℕ) (desk : Desk) (event : Event) (body : Body) → HasPlaceFor most event body → KeepsLoosely most body (event_did desk event body)
@@ -253,6 +267,8 @@ event_keeps most desk (Sub id sub) body fits = subs_keeps most id sub body
 event_keeps most desk Forecast body fits = loosely most body _ (forecasts_keep most desk (slice_get body.kept 0) body)
 event_keeps most desk (Query barcode) body fits = loosely most body _ (asks_keeps most desk barcode body)
 event_keeps most desk (Supervised what) body fits = loosely most body _ (supervises_keeps most desk what body)
+event_keeps most desk (Gives id to) body fits = gives_keeps most id to body
+event_keeps most desk (Gets board) body fits = gets_keeps most board body fits
 
 -- ---- the will
 
@@ -285,6 +301,7 @@ event_wills desk (Remove id) body no_will = kept_wills (is_kept id body.kept) (w
 event_wills desk (Replace old new) body no_will = kept_wills (is_kept old body.kept) (with_instead old (plain_record new desk.name None) body.kept) (acts.Replaces old new) body
 event_wills desk (Mark id quality) body no_will = kept_wills (is_kept id body.kept) (with_mark id quality body.kept) (acts.Marks id quality) body
 event_wills desk (Sub id sub) body no_will = kept_wills (takes_sub id sub body.kept) (with_sub id sub body.kept) (acts.Subs id sub.pos) body
+event_wills desk (Gives id to) body no_will = kept_wills (is_kept id body.kept) (without id body.kept) (acts.Gives id to) body
 event_wills desk _ body no_will = record { entry = refl; exit = refl }
 
 -- ---- the announcements
@@ -485,6 +502,7 @@ below a b most less fits = omega (arith, less, fits)
 -- reading takes no place
 read_fits : (most : ℕ) (desk : Desk) (unread : List Seen) (event : Event) (body : Body) → HasPlaceFor most event body → HasPlaceFor most event (all_read desk unread body).body
 read_fits most desk unread (Insert id barcode) body fits = below _ (used body) most ((all_read_keeps (used body) desk unread body).places (same_fits (used body))) fits
+read_fits most desk unread (Gets board) body fits = below _ (used body) most ((all_read_keeps (used body) desk unread body).places (same_fits (used body))) fits
 read_fits most desk unread Nothing body fits = tt
 read_fits most desk unread _ body fits = tt
 

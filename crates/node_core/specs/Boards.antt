@@ -1,6 +1,6 @@
 -- What is done by hand: boards are put in, taken out, replaced and marked, get circuits of a panel,
 -- drives fail, and the will changes.
-use Rattle.std.specs.Prelude.{◌≡◌, ◌<◌, ℕ, Bool, true, false, List, [], ◌∷◌, ◌++◌, ◌==◌, Option, None, length, not, remove, slice_set, if◌then◌else◌}
+use Rattle.std.specs.Prelude.{◌≡◌, ◌<◌, ℕ, Bool, true, false, List, [], ◌∷◌, ◌++◌, ◌==◌, Option, None, Some, length, not, remove, slice_get, slice_set, if◌then◌else◌}
 use Rattle.line_base.specs.declared.states.Side.{Side}
 use Rattle.line_base.specs.declared.states.Side.TheVariants.{Entry, Exit}
 use Rattle.line_base.specs.declared.states.Quality.{Quality}
@@ -35,6 +35,12 @@ is_kept id kept = first_passes id (λ _. true) kept
 abbrev pub takes_sub : ℕ → SubBoard → List Record → Bool
 takes_sub id sub kept = first_passes id (λ board. not (is_full board.subs sub)) kept
 
+-- and that record
+abbrev pub first_kept : ℕ → List Record → Option Record
+first_kept id [] = None
+first_kept id (board ∷ boards) =
+    if board.id == id then Some board else first_kept id boards
+
 -- the records without it
 abbrev pub without : ℕ → List Record → List Record
 without id [] = []
@@ -62,6 +68,7 @@ with_sub id sub kept = with_changed id (λ board. record board { subs = board.su
 pub record IsFirstAt (id : ℕ) (kept : List Record) (place : ℕ) : Type 0 where
   pub within : place < length kept
   pub is_kept : is_kept id kept ≡ true
+  pub found : slice_get kept place ≡ first_kept id kept
   pub removed : remove kept place ≡ without id kept
   pub replaced : (other : Record) → slice_set kept place other ≡ with_instead id other kept
   pub marked : (quality : Quality) → with_quality kept place quality ≡ with_mark id quality kept
@@ -116,3 +123,12 @@ faults desk Exit body = at_outlet desk out_input.Fault body
 -- THE MICRO EVENT: the machine's will at a side changes
 abbrev pub wills : Side → Bool → Body → Done
 wills side on body = done (with_will side on body) (acts.Sets (settings.Will side on) ∷ [])
+
+-- THE MICRO EVENT: a board goes to another lane
+abbrev pub gives : ℕ → ℕ → Body → Done
+gives id to body =
+    if_kept (is_kept id body.kept) (with_kept (without id body.kept) body) (acts.Gives id to) body
+
+-- THE MICRO EVENT: a board comes from another lane, to the back
+abbrev pub gets : Record → Body → Done
+gets board body = done (with_kept (body.kept ++ board ∷ []) body) (acts.Gets board.id ∷ [])

@@ -6,6 +6,7 @@ use Rattle.line_base.specs.declared.states.Side.TheVariants.{Entry, Exit}
 use Rattle.line_base.specs.declared.states.Quality.{Quality}
 use Rattle.smema_bridge.specs.declared.line.SegmentLine.{SegmentLine}
 use Rattle.board_record.specs.Maker.{Maker, next_id, after_next}
+use Rattle.board_record.specs.declared.record.Record.{Record}
 use Rattle.board_record.specs.declared.maker.IdsUsedUp.{IdsUsedUp}
 use Rattle.board_record.specs.declared.sub_board.SubBoard.{SubBoard}
 use Rattle.board_record.specs.SubBoards.{unknown_sub}
@@ -17,7 +18,7 @@ use Rattle.node_core.specs.declared.word.Word.{Word}
 use Rattle.node_core.specs.Desk.{Desk}
 use Rattle.node_core.specs.Done.{Done, stays, behind}
 use Rattle.node_core.specs.Connect.{opens, meets_second, notices, both_tick, both_shut_down}
-use Rattle.node_core.specs.Boards.{inserts, removes, replaces, marks, adds_sub, faults, wills}
+use Rattle.node_core.specs.Boards.{inserts, removes, replaces, marks, adds_sub, faults, gets, gives, wills}
 use Rattle.node_core.specs.Bridge.{sets_level}
 use Rattle.node_core.specs.Information.{forecasts_front, asks_for}
 use Rattle.node_core.specs.Words.{all_heard}
@@ -43,6 +44,8 @@ pub data Event : Type 0 where
   Forecast : Event
   Query : List ℕ → Event
   Supervised : Supervision → Event
+  Gives : ℕ → ℕ → Event
+  Gets : Record → Event
 
 -- with a new id, if there is one
 abbrev pub with_new : Result ℕ IdsUsedUp → (ℕ → Event) → Event
@@ -72,6 +75,8 @@ event_of maker (inputs.Query barcode) words = Query barcode
 event_of maker (inputs.Supervise on) words = Supervised (Supervise on)
 event_of maker (inputs.Ask question) words = Supervised (Ask question)
 event_of maker (inputs.Answer query order) words = Supervised (Answer query order)
+event_of maker (inputs.Gives id to) words = Gives id to
+event_of maker (inputs.Gets board) words = Gets board
 
 -- the id maker after an input
 abbrev pub maker_after : Input → Maker → Maker
@@ -100,3 +105,5 @@ event_did desk (Sub id sub) body = adds_sub id sub body
 event_did desk Forecast body = forecasts_front desk body
 event_did desk (Query barcode) body = asks_for desk barcode body
 event_did desk (Supervised what) body = supervises desk what body
+event_did desk (Gives id to) body = gives id to body
+event_did desk (Gets board) body = gets board body

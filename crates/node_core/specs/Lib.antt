@@ -15,6 +15,7 @@ pub mod Bridge
 pub mod Words
 pub mod Supervising
 pub mod Event
+pub mod Shifts
 pub mod Signals
 pub mod Forecasts
 pub mod Step
@@ -25,3 +26,4 @@ pub mod Hermes
 pub mod Own
 pub mod Sound
 pub mod Bounds
+pub mod Shared

@@ -144,6 +144,7 @@ may_replace id s =
     no_if (not (is_kept id s.lane.body.kept)) no.NotKept
     (no_if (is_used_up s.maker.used) no.IdsUsedUp may_do)
 
+-- a machine of one lane has no other, to which a board could go or from which one could come
 abbrev pub may_of : NodeState → Input → Result (Unit {0}) No
 may_of s inputs.Nothing = may_do
 may_of s inputs.Connect = may_connect s.lane.body
@@ -166,3 +167,23 @@ may_of s (inputs.Query barcode) = may_query s.lane.body
 may_of s (inputs.Supervise on) = may_supervise on s
 may_of s (inputs.Ask question) = may_ask s
 may_of s (inputs.Answer query order) = may_answer query s
+may_of s (inputs.Gives id to) = Err no.NoLane
+may_of s (inputs.Gets board) = Err no.NoLane
+
+-- ---- a lane of several: to it and from it boards go by a shift, too
+
+abbrev pub may_give : ℕ → NodeState → Result (Unit {0}) No
+may_give id s =
+    no_if (is_some s.bridge) no.Bridge
+    (no_if (not (is_kept id s.lane.body.kept)) no.NotKept
+    (no_if (out_state.is_id s.lane.body.last_offer id) no.WasOffered may_do))
+
+abbrev pub may_get : NodeState → Result (Unit {0}) No
+may_get s =
+    no_if (not (is_intake_free s.lane.body)) no.IntakeOpen
+    (no_if (not (has_place (desk_of s (pos 0)) s.lane.body)) no.Full may_do)
+
+abbrev pub may_on_lane : NodeState → Input → Result (Unit {0}) No
+may_on_lane s (inputs.Gives id to) = may_give id s
+may_on_lane s (inputs.Gets board) = may_get s
+may_on_lane s input = may_of s input

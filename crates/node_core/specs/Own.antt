@@ -46,6 +46,8 @@ own_act own (acts.Deed deed) = own_deed own deed
 own_act own (acts.Inserts id) = record own { kept = own.kept ++ id ∷ [] }
 own_act own (acts.Removes id) = record own { kept = without_id id own.kept }
 own_act own (acts.Replaces old new) = record own { kept = with_id_instead old new own.kept }
+own_act own (acts.Gives id to) = record own { kept = without_id id own.kept }
+own_act own (acts.Gets id) = record own { kept = own.kept ++ id ∷ [] }
 own_act own _ = own
 
 -- the own records after some acts

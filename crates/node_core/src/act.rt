@@ -47,6 +47,10 @@ pub enum Act {
     Sets(Setting),
     /// A kept record has a circuit more, at this place of the panel.
     Subs { id: BoardId, pos: u32 },
+    /// A board goes to another lane of the machine.
+    Gives { id: BoardId, to: u32 },
+    /// A board comes from another lane of the machine.
+    Gets { id: BoardId },
 }
 
 /// What a supervisor is told, or asked. It lies apart, so that an act is small: few acts tell a

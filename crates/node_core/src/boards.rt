@@ -1,6 +1,6 @@
 ghost use Rattle.std.specs.Prelude.{◌≡◌, ◌++◌, IfSome, OnOk, None, false};
 ghost use Rattle.node_core.specs.Sides.{end_at};
-ghost use Rattle.node_core.specs.Boards.{IsFirstAt, is_kept, takes_sub, inserts, removes, replaces, marks, adds_sub, faults, wills};
+ghost use Rattle.node_core.specs.Boards.{IsFirstAt, first_kept, is_kept, takes_sub, inserts, removes, replaces, marks, adds_sub, faults, gets, gives, wills};
 ghost use Rattle.board_record.specs.declared.sub_board.SubBoard.{SubBoard as Sub};
 ghost use Rattle.board_record.specs.SubBoards.{unknown_sub};
 
@@ -14,11 +14,12 @@ use handover_out::OutInput;
 use line_base::{Memory, Quality, Side, Text};
 
 /// The place of the first record of this id.
-#[tactic(auto, using(crate::proofs::First::position_first, crate::proofs::First::position_none, crate::proofs::First::position_roomless))]
+#[tactic(auto, using(crate::proofs::First::position_first, crate::proofs::First::position_none, crate::proofs::First::position_roomless, crate::proofs::First::position_missing))]
 fn place_of(kept: &Shelf, id: BoardId) -> Option<usize>
     ensures first { IfSome result (IsFirstAt id kept.now) }
     ensures none { result ≡ None → is_kept id kept.now ≡ false }
     ensures roomless { result ≡ None → (sub : Sub) → takes_sub id sub kept.now ≡ false }
+    ensures missing { result ≡ None → first_kept id kept.now ≡ None }
 {
     kept.position_of(id)
 }
@@ -62,6 +63,40 @@ impl Body {
             }
             None => Ok(()),
         }
+    }
+
+    /// A board goes to another lane; its record is put into the slot.
+    pub(crate) fn give(
+        &mut self,
+        id: BoardId,
+        lane: u32,
+        slot: &mut Option<Record>,
+        to: &mut Outputs,
+    ) -> Result<(), Memory>
+        ensures body { OnOk result (self.new ≡ (gives id lane self.old).body) }
+        ensures acts { OnOk result (to.new ≡ to.old ++ (gives id lane self.old).acts) }
+        ensures board { OnOk result (slot.new ≡ first_kept id self.old.kept) }
+    {
+        match place_of(&self.kept, id) {
+            Some(place) => {
+                *slot = Some(self.kept.take(place));
+                to.push(Act::Gives { id, to: lane })
+            }
+            None => {
+                *slot = None;
+                Ok(())
+            }
+        }
+    }
+
+    /// A board comes from another lane, to the back.
+    pub(crate) fn get(&mut self, board: Record, to: &mut Outputs) -> Result<(), Memory>
+        ensures body { OnOk result (self.new ≡ (gets board self.old).body) }
+        ensures acts { OnOk result (to.new ≡ to.old ++ (gets board self.old).acts) }
+    {
+        let id = board.id;
+        self.kept.push_back(board)?;
+        to.push(Act::Gets { id })
     }
 
     /// Another board comes into the place of a board.

@@ -1,4 +1,4 @@
-use board_record::BoardId;
+use board_record::{BoardId, Record};
 use hermes_vertical::Question;
 use line_base::{Quality, Side, Text};
 use smema_bridge::SegmentLine;
@@ -56,6 +56,15 @@ pub enum Input<'a> {
         pos: u32,
         barcode: Option<Text>,
     },
+    /// This board goes to another lane of the machine, 1 to 4. Only a shift gives it
+    /// (`Node::give`): a machine of one lane refuses it.
+    Gives {
+        id: BoardId,
+        to: u32,
+    },
+    /// The board of this record comes from another lane of the machine. Only a shift gives it
+    /// (`Node::get`): a machine of one lane refuses it.
+    Gets(Record),
 }
 
 /// Why an input may not be given.
@@ -101,4 +110,8 @@ pub enum No {
     Answered(u64),
     /// The board's record has no room for one circuit more.
     SubsFull,
+    /// The machine has no such lane.
+    NoLane,
+    /// The board was the last one that was offered, so texts that are on their way may name it.
+    WasOffered,
 }

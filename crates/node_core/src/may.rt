@@ -1,7 +1,7 @@
 ghost use Rattle.board_record.specs.SubBoards.{unknown_sub};
 ghost use Rattle.std.specs.Prelude.{◌≡◌, not};
 ghost use Rattle.smema_bridge.specs.Segment.{level_of};
-ghost use Rattle.node_core.specs.May.{is_handing_over, is_used_up, may_of, may_connect, may_accept, may_reach, may_reach_any, may_fault, may_will, may_level, may_insert, may_remove, may_replace, may_mark, may_sub, may_forecast, may_query, may_supervise, may_ask, may_answer};
+ghost use Rattle.node_core.specs.May.{is_handing_over, is_used_up, may_of, may_connect, may_accept, may_reach, may_reach_any, may_fault, may_will, may_level, may_insert, may_remove, may_replace, may_mark, may_sub, may_forecast, may_query, may_supervise, may_ask, may_answer, may_give, may_get};
 
 use crate::input::{Input, No};
 use crate::lane::Body;
@@ -176,7 +176,8 @@ impl Node {
     /// `Offered`. `Forecast`: `NotStanding`, `NotSupported`, `NothingKept`. `Query`:
     /// `NotStanding`, `NotSupported`. `Supervise`: `Same`. `Ask`: `NotSupervised`, `QueriesFull`.
     /// `Answer`: `NotSupervised`, `UnknownQuery`, `Answered` with the number of the query.
-    /// `Sub`: `NotKept`, `Offered`, `SubsFull`. It takes no memory.
+    /// `Sub`: `NotKept`, `Offered`, `SubsFull`. `Gives` and `Gets`: `NoLane`, always. It takes no
+    /// memory.
     #[inline(always)]
     pub fn may(&self, input: &Input<'_>) -> Result<(), No>
         ensures { result ≡ may_of self.now input.now }
@@ -203,7 +204,40 @@ impl Node {
             Input::Ask(_) => self.may_ask(),
             Input::Answer { query, .. } => self.may_answer(*query),
             Input::Sub { id, pos, barcode } => self.lane.body.may_sub(*id, *pos, barcode),
+            Input::Gives { .. } => Err(No::NoLane),
+            Input::Gets(_) => Err(No::NoLane),
         }
+    }
+
+    /// Whether a board may go to another lane of the machine: the first reason against it, of
+    /// `Bridge`, `NotKept`, `WasOffered`.
+    pub fn may_give(&self, id: BoardId) -> Result<(), No>
+        ensures { result ≡ may_give id self.now }
+    {
+        if self.desk.bridge().is_some() {
+            return Err(No::Bridge);
+        }
+        if !self.lane.body.keeps(id) {
+            return Err(No::NotKept);
+        }
+        if self.lane.body.last_offer == Some(id) {
+            return Err(No::WasOffered);
+        }
+        Ok(())
+    }
+
+    /// Whether a board may come from another lane of the machine: the first reason against it, of
+    /// `IntakeOpen`, `Full`.
+    pub fn may_get(&self) -> Result<(), No>
+        ensures { result ≡ may_get self.now }
+    {
+        if !self.lane.body.is_intake_free() {
+            return Err(No::IntakeOpen);
+        }
+        if !self.lane.body.has_place(&self.desk) {
+            return Err(No::Full);
+        }
+        Ok(())
     }
 
     fn has_ids(&self) -> bool

@@ -1,12 +1,16 @@
-ghost use Rattle.std.specs.Prelude.{◌≡◌, ◌≤◌, ◌<◌, ◌^◌, true, false, Ok, IsErr, OnErr, IfOk, is_some, length};
+ghost use Rattle.std.specs.Prelude.{◌≡◌, ◌≤◌, ◌<◌, ◌^◌, true, false, Ok, Some, IsErr, OnErr, IfOk, is_some, length};
 ghost use Rattle.std.specs.Option.{option_copied};
 ghost use Rattle.hermes_stream.specs.Frames.{most_bytes};
 ghost use Rattle.forecast_query.specs.Forecasts.{most_forecasts};
 ghost use Rattle.supervisory_core.specs.Orders.{answer_to, most_open, unanswered};
 ghost use Rattle.node_core.specs.Bridge.{IsWilling};
 ghost use Rattle.node_core.specs.Sides.{session_at, is_open};
-ghost use Rattle.node_core.specs.Node.{NodeState, first_body, new_node};
-ghost use Rattle.node_core.specs.May.{may_of, may_do};
+ghost use Rattle.node_core.specs.Node.{NodeState, desk_of, first_body, new_node};
+ghost use Rattle.node_core.specs.May.{may_of, may_do, may_get, may_give, may_on_lane};
+ghost use Rattle.node_core.specs.Reads.{all_read};
+ghost use Rattle.node_core.specs.Shifts.{board_given, given_by};
+ghost use Rattle.node_core.specs.Shared.{shared_of, with_shared};
+ghost use Rattle.node_core.specs.declared.input.Input.TheVariants as inputs;
 ghost use Rattle.node_core.specs.Places.{used};
 ghost use Rattle.node_core.specs.Hermes.{hermes_state};
 ghost use Rattle.node_core.specs.Own.{own_of, own_after};
@@ -22,7 +26,9 @@ use crate::hermes::HermesState;
 use crate::input::Input;
 use crate::lane::{Body, End, Lane};
 use crate::laws::one_meaning;
+use crate::passage::{Given, Passage};
 use crate::profile::NodeProfile;
+use crate::shared::Shared;
 use crate::shelf::Shelf;
 use crate::supervising::{note_orders, supervised_after};
 use board_record::{BoardId, IdMaker, Record, Sensed};
@@ -154,6 +160,7 @@ impl Node {
     ///
     /// `Memory` where there is none for the acts, for records and texts; the machine is spent
     /// then.
+    #[tactic(auto, using(crate::proofs::Lasting::may_alone))]
     pub fn step(
         &mut self,
         sensed: &[Sensed],
@@ -177,6 +184,116 @@ impl Node {
         ensures own { IfOk result
             (λ acts. own_of self.new.lane.body ≡ own_after (own_of self.old.lane.body) acts) }
     {
+        let mut slot = None;
+        self.make_step(sensed, input, moment, &mut slot)
+    }
+
+    /// Gives a board to another lane of the machine, 1 to 4, in a step as any other: it reads the
+    /// unread sensor events, the board's record, the first of its id behind them, goes out of those
+    /// that it keeps, and it makes the announcements that are due. What it did and the record are
+    /// answered; that lane is to get it.
+    ///
+    /// `Memory` as in `step`.
+    #[tactic(auto, using(crate::proofs::Staying::board_missing))]
+    pub fn give(
+        &mut self,
+        sensed: &[Sensed],
+        id: BoardId,
+        to: u32,
+        moment: Moment,
+    ) -> Result<Given, Memory>
+        requires { may_give id self.old ≡ may_do }
+        ensures spent { self.old.spent ≡ true → IsErr result }
+        ensures memory { OnErr result (self.new.spent ≡ true) }
+        ensures again { IfOk result (λ given. self.new.spent ≡ false) }
+        ensures step { IfOk result
+            (λ given. Steps self.old sensed.now (inputs.Gives id to) moment self.new given.acts) }
+        // of which it had the record
+        ensures board { IfOk result
+            (λ given. board_given self.old sensed.now moment id ≡ Some given.board) }
+        ensures bounded { IfOk result (λ given. IsBounded self.new) }
+        ensures willing { IfOk result (λ given. IsWilling self.new.bridge self.new.lane.body) }
+        ensures own { IfOk result
+            (λ given. own_of self.new.lane.body
+            ≡ own_after (own_of self.old.lane.body) given.acts) }
+    {
+        let mut slot = None;
+        let acts = self.make_step(sensed, Input::Gives { id, to }, moment, &mut slot)?;
+        match slot {
+            Some(board) => Ok(Given {
+                acts,
+                board: Passage { board },
+            }),
+            None => unreachable!(),
+        }
+    }
+
+    /// Gets a board from another lane of the machine, in a step as any other: its record comes
+    /// behind those that it keeps, as it is.
+    ///
+    /// `Memory` as in `step`.
+    pub fn get(
+        &mut self,
+        sensed: &[Sensed],
+        board: Passage,
+        moment: Moment,
+    ) -> Result<Outputs, Memory>
+        requires { may_get self.old ≡ may_do }
+        ensures spent { self.old.spent ≡ true → IsErr result }
+        ensures memory { OnErr result (self.new.spent ≡ true) }
+        ensures again { IfOk result (λ acts. self.new.spent ≡ false) }
+        ensures step { IfOk result (Steps self.old sensed.now (inputs.Gets board) moment self.new) }
+        ensures bounded { IfOk result (λ acts. IsBounded self.new) }
+        ensures willing { IfOk result (λ acts. IsWilling self.new.bridge self.new.lane.body) }
+        ensures own { IfOk result
+            (λ acts. own_of self.new.lane.body ≡ own_after (own_of self.old.lane.body) acts) }
+    {
+        let mut slot = None;
+        self.make_step(sensed, Input::Gets(board.board), moment, &mut slot)
+    }
+
+    /// What its lanes share, as it is on this one. The machine has this number.
+    pub fn shared(&self, number: u32) -> Shared
+        requires { self.now.maker.machine ≡ number }
+        ensures { result ≡ shared_of self.now }
+    {
+        Shared {
+            number,
+            used: self.maker.used(),
+            supervised: self.desk.supervised(),
+        }
+    }
+
+    /// Follows another lane of the same machine in what they share.
+    pub fn share(&mut self, with: &Shared)
+        ensures { self.new ≡ with_shared with.now self.old }
+    {
+        self.maker = IdMaker::new(with.number, with.used);
+        self.desk.set_supervised(with.supervised);
+    }
+
+    /// Makes a step. The record of a board that goes to another lane is put into the slot.
+    fn make_step(
+        &mut self,
+        sensed: &[Sensed],
+        input: Input<'_>,
+        moment: Moment,
+        slot: &mut Option<Record>,
+    ) -> Result<Outputs, Memory>
+        requires { may_on_lane self.old input ≡ may_do }
+        ensures spent { self.old.spent ≡ true → IsErr result }
+        ensures memory { OnErr result (self.new.spent ≡ true) }
+        ensures again { IfOk result (λ acts. self.new.spent ≡ false) }
+        ensures step { IfOk result (Steps self.old sensed.now input.entry moment self.new) }
+        ensures wrong { IfOk result (IsBrokenOff self.old sensed.now input.entry moment self.new) }
+        ensures bounded { IfOk result (λ acts. IsBounded self.new) }
+        ensures willing { IfOk result (λ acts. IsWilling self.new.bridge self.new.lane.body) }
+        ensures own { IfOk result
+            (λ acts. own_of self.new.lane.body ≡ own_after (own_of self.old.lane.body) acts) }
+        ensures board { IfOk result
+            (λ acts. slot.new ≡ given_by input.entry
+            (all_read (desk_of self.old moment) sensed.now self.old.lane.body).body.kept slot.old) }
+    {
         if self.spent {
             return Err(Memory);
         }
@@ -186,7 +303,9 @@ impl Node {
         let told = after_input(self.desk.bridge(), &input);
         let supervised = supervised_after(self.desk.supervised(), &input);
         note_orders(self.desk.alloc(), &mut self.orders, &input)?;
-        let mut acts = self.lane.step(&self.desk, &mut self.maker, sensed, input)?;
+        let mut acts = self
+            .lane
+            .step(&self.desk, &mut self.maker, sensed, input, slot)?;
         let bridge = signal(told, &self.lane.body, &mut acts)?;
         self.desk.set_bridge(bridge);
         self.desk.set_supervised(supervised);

@@ -1,4 +1,4 @@
-ghost use Rattle.std.specs.Prelude.{◌≡◌, ◌==◌, ◌<◌, [], ◌∷◌, ◌++◌, ◌↔◌, Err, OnOk, OnErr, true, drop, length, position, remove, slice_get, slice_set};
+ghost use Rattle.std.specs.Prelude.{◌≡◌, ◌==◌, ◌<◌, [], ◌∷◌, ◌++◌, ◌↔◌, Err, Some, OnOk, OnErr, true, drop, length, position, remove, slice_get, slice_set};
 ghost use Rattle.board_record.specs.declared.record.Record.{Record};
 ghost use Rattle.board_record.specs.Kept.{is_full_at, with_quality, with_sub};
 ghost use Rattle.board_record.specs.declared.sub_boards.SubError.TheVariants as errors;
@@ -63,6 +63,15 @@ impl Shelf {
         ensures { self.new ≡ remove self.old place }
     {
         let _removed = self.kept.take(place);
+    }
+
+    /// The record at a place goes out.
+    pub(crate) fn take(&mut self, place: usize) -> Record
+        requires { place < length self.old }
+        ensures taken { slice_get self.old place ≡ Some result }
+        ensures boards { self.new ≡ remove self.old place }
+    {
+        self.kept.take(place)
     }
 
     pub(crate) fn replace(&mut self, place: usize, board: Record)

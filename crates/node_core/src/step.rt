@@ -5,6 +5,8 @@ ghost use Rattle.board_record.specs.SubBoards.{unknown_sub};
 ghost use Rattle.node_core.specs.declared.input.Input.TheVariants as inputs;
 ghost use Rattle.node_core.specs.Halves.{OffersFront};
 ghost use Rattle.node_core.specs.Event.{Connect, Accepted, event_did};
+ghost use Rattle.node_core.specs.Reads.{all_read};
+ghost use Rattle.node_core.specs.Shifts.{given_by};
 ghost use Rattle.node_core.specs.Step.{DoesInput, HearsBytes, MeetsInput, StepsLane};
 ghost use Rattle.node_core.specs.Supervising.{HasNumber};
 
@@ -14,7 +16,7 @@ use crate::input::Input;
 use crate::lane::Lane;
 use crate::piece::hear_piece;
 use crate::supervising::{Watch, ask, with_tells};
-use board_record::{BoardId, IdMaker, Sensed, SubBoard};
+use board_record::{BoardId, IdMaker, Record, Sensed, SubBoard};
 use line_base::{Memory, Quality, Side, Text};
 
 /// A circuit of which it isn't known whether it is good.
@@ -116,13 +118,16 @@ impl Lane {
         desk: &Desk,
         maker: &mut IdMaker,
         input: Input<'_>,
+        slot: &mut Option<Record>,
         to: &mut Outputs,
     ) -> Result<(), Memory>
         requires offers { OffersFront self.old.body }
         requires upstream { self.old.body.exit.session.role ≡ Upstream }
         requires numbered { HasNumber input desk.now }
-        ensures { OnOk result
+        ensures met { OnOk result
             (MeetsInput desk.now maker.old maker.new input.entry self.old self.new to.old to.new) }
+        ensures board { OnOk result
+            (slot.new ≡ given_by input.entry self.old.body.kept slot.old) }
     {
         match input {
             Input::Nothing => Ok(()),
@@ -148,28 +153,36 @@ impl Lane {
             Input::Sub { id, pos, barcode } => {
                 self.body.add_sub(id, unknown_sub(pos, barcode), to)
             }
+            Input::Gives { id, to: lane } => self.body.give(id, lane, slot, to),
+            Input::Gets(board) => self.body.get(board, to),
         }
     }
 
     /// A step: the unread events in order, the input, the announcements; and behind each act what
-    /// the supervisor is told of it.
+    /// the supervisor is told of it. The record of a board that goes to another lane is put into
+    /// the slot.
     pub(crate) fn step(
         &mut self,
         desk: &Desk,
         maker: &mut IdMaker,
         unread: &[Sensed],
         input: Input<'_>,
+        slot: &mut Option<Record>,
     ) -> Result<Outputs, Memory>
         requires offers { OffersFront self.old.body }
         requires upstream { self.old.body.exit.session.role ≡ Upstream }
         requires numbered { HasNumber input desk.now }
-        ensures { IfOk result
+        ensures steps { IfOk result
             (StepsLane desk.now unread.now input.entry maker.old maker.new self.old self.new) }
+        ensures board { IfOk result
+            (λ told. slot.new
+            ≡ given_by input.entry (all_read desk.now unread.now self.old.body).body.kept
+            slot.old) }
     {
         let watch = Watch::of(desk, &self.body);
         let mut acts = Outputs::new(desk.alloc());
         self.body.read_all(desk, unread, &mut acts)?;
-        self.meet(desk, maker, input, &mut acts)?;
+        self.meet(desk, maker, input, slot, &mut acts)?;
         self.body.announce(desk, &mut acts)?;
         let told = with_tells(desk, watch, acts)?;
         Ok(told)

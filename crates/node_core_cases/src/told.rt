@@ -108,6 +108,11 @@ fn tell_by_hand(act: &Act, to: &mut Vec<u8>) -> io::Result<()> {
             about("subs", *id, to)?;
             write!(to, " {pos}")
         }
+        Act::Gives { id, to: lane } => {
+            about("gives", *id, to)?;
+            write!(to, " {lane}")
+        }
+        Act::Gets { id } => about("gets", *id, to),
         _ => tell_supervised(act, to),
     }
 }

@@ -1,5 +1,5 @@
 use Rattle.std.proofs.Common.{◌∙◌, sym}
-use Rattle.node_core.proofs.First.{position_first, position_none, position_roomless}
+use Rattle.node_core.proofs.First.{position_first, position_missing, position_none, position_roomless}
 use Rattle.node_core.proofs.boards.place_of.Goals as goal
 
 pub returns-clause-first : goal.returns-clause-first
@@ -10,3 +10,6 @@ returns-clause-none c = λ none. position_none c.args.id c.args.kept.now (sym c.
 
 pub returns-clause-roomless : goal.returns-clause-roomless
 returns-clause-roomless c = λ none. position_roomless c.args.id c.args.kept.now (sym c.position_of.ensures ∙ none)
+
+pub returns-clause-missing : goal.returns-clause-missing
+returns-clause-missing c = λ none. position_missing c.args.id c.args.kept.now (sym c.position_of.ensures ∙ none)

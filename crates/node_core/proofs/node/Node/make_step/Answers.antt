@@ -8,7 +8,7 @@ use Rattle.node_core.specs.Node.{NodeState}
 use Rattle.node_core.specs.Bridge.{IsWilling}
 use Rattle.node_core.specs.Sound.{IsSound}
 use Rattle.node_core.proofs.Lasting.{seen_as, steps_after, sound_after, willing_after, owns_after, breaks_after, numbered}
-use Rattle.node_core.proofs.node.Node.step.Goals as goal
+use Rattle.node_core.proofs.node.Node.make_step.Goals as goal
 
 -- the desk of the step, and the one after it
 pub returns-clause-step : goal.returns-clause-step
@@ -27,7 +27,7 @@ returns-clause-step c =
     c.step.new.maker c.self.inside.lane c.step.new.self c.self.inside.forecasts c.note_forecasts.new.kept
     c.self.inside.orders c.note_orders.new.orders c.args.sensed.now c.args.input c.args.moment c.after_input-told.result
     c.in_ok-bridge.bridge c.in_ok-acts.acts c.signal.new.to
-    c.self.view_is timed (c.after_input-told.ensures ∙ ap (levels_told c.args.input) c.bridge.ensures) c.in_ok-acts.ensures
+    c.self.view_is timed (c.after_input-told.ensures ∙ ap (levels_told c.args.input) c.bridge.ensures) c.in_ok-acts.ensures.steps
     c.in_ok-bridge.ensures.levels c.in_ok-bridge.ensures.acts settled
     (c.in_ok-note_forecasts.ensures ∙ ap (forecasts_after c.self.inside.forecasts) c.list.ensures)
     c.in_ok-note_orders.ensures
@@ -59,7 +59,7 @@ returns-clause-wrong c =
     breaks_after c.one_meaning.ensures c.args.self.now after c.self.inside.spent desk c.set_asked.new.self c.self.inside.maker
     c.step.new.maker c.self.inside.lane c.self.inside.forecasts c.self.inside.orders c.args.sensed.now c.args.input c.args.moment
     c.after_input-told.result c.in_ok-acts.acts c.signal.new.to
-    c.self.view_is timed (c.after_input-told.ensures ∙ ap (levels_told c.args.input) c.bridge.ensures) c.in_ok-acts.ensures
+    c.self.view_is timed (c.after_input-told.ensures ∙ ap (levels_told c.args.input) c.bridge.ensures) c.in_ok-acts.ensures.steps
     c.in_ok-bridge.ensures.acts
 
 pub returns-clause-bounded : goal.returns-clause-bounded
