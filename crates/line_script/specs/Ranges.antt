@@ -1,6 +1,8 @@
 use Rattle.std.specs.Prelude.{ℕ, ◌≤◌, Option, Some, None}
 use Rattle.hermes_vertical.specs.declared.message.Question.{Question}
 use Rattle.hermes_vertical.specs.declared.message.Question.TheVariants as questions
+use Rattle.line_script.specs.declared.line.LaneLine.{LaneLine}
+use Rattle.line_script.specs.declared.line.LaneLine.TheVariants as lane_lines
 use Rattle.line_script.specs.declared.line.ScriptLine.{ScriptLine}
 use Rattle.line_script.specs.declared.line.ScriptLine.TheVariants as lines
 
@@ -60,3 +62,10 @@ IsWithin (lines.Answer machine query order) =
     IsBetween 1 64 machine × IsBetween 0 999999999999999 query
 IsWithin (lines.Forecast machine) = IsBetween 1 64 machine
 IsWithin (lines.Query machine barcode) = IsBetween 1 64 machine
+
+-- and so do its lanes
+abbrev pub IsLaneWithin : LaneLine → Type 0
+IsLaneWithin (lane_lines.On lane line) = IsBetween 1 4 lane × IsWithin line
+IsLaneWithin (lane_lines.Lanes count) = IsBetween 1 4 count
+IsLaneWithin (lane_lines.Shift machine from to id) =
+    IsBetween 1 64 machine × IsBetween 1 4 from × IsBetween 1 4 to

@@ -7,5 +7,5 @@ mod line;
 mod read;
 pub mod words;
 
-pub use line::{LineError, LineWhy, ScriptLine};
+pub use line::{LaneLine, LineError, LineWhy, ScriptLine};
 pub use read::{MOST_LINE_BYTES, read_line};

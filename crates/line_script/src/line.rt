@@ -175,6 +175,27 @@ pub enum ScriptLine {
     },
 }
 
+/// A line of a script of a line of several lanes.
+#[derive(Drop)]
+pub enum LaneLine {
+    /// A line of this lane, 1 to 4; of lane 1 where it names none.
+    On {
+        lane: u32,
+        line: ScriptLine,
+    },
+    /// The line has so many lanes, 1 to 4.
+    Lanes {
+        count: u32,
+    },
+    /// A board that a machine keeps on lane `from` goes to its lane `to`.
+    Shift {
+        machine: u32,
+        from: u32,
+        to: u32,
+        id: BoardId,
+    },
+}
+
 /// Why a line is refused. The reasons are tested in this order, but the last four, of which the
 /// first that holds for the words from the left counts.
 #[derive(Clone, Copy, Debug, PartialEq, Eq)]
