@@ -1,1 +1,3 @@
+pub mod Lanes
+pub mod Shifts
 pub mod Texts

@@ -35,6 +35,7 @@ use Rattle.node_core.specs.declared.input.No.{No}
 use Rattle.node_core.specs.declared.input.No.TheVariants as nos
 use Rattle.line_report.specs.declared.happening.Happening.{Happening}
 use Rattle.line_report.specs.declared.happening.Happening.TheVariants as happenings
+use Rattle.line_report.specs.declared.happening.LaneHappening.{LaneHappening}
 use Rattle.line_report.specs.declared.happening.Reason.{Reason}
 use Rattle.line_report.specs.declared.happening.Reason.TheVariants as reasons
 use Rattle.line_report.specs.declared.summary.Summary.{Summary}
@@ -73,12 +74,16 @@ no_text nos.QueriesFull = codes "queries full"
 no_text nos.UnknownQuery = codes "unknown query"
 no_text (nos.Answered query) = codes "answered"
 no_text nos.SubsFull = codes "subs full"
+no_text nos.NoLane = codes "no lane"
+no_text nos.WasOffered = codes "was offered"
 
 abbrev pub reason_text : Reason → List ℕ
 reason_text (reasons.Node why) = no_text why
 reason_text (reasons.Move why) = move_no_text why
 reason_text reasons.NoSuchMachine = codes "no such machine"
 reason_text reasons.LineFull = codes "line full"
+reason_text reasons.NoLane = codes "no lane"
+reason_text reasons.MachinesStand = codes "machines stand"
 reason_text reasons.NotHere = codes "not here"
 reason_text reasons.NoNeighbour = codes "no neighbour"
 reason_text reasons.NothingInFlight = codes "nothing in flight"
@@ -134,31 +139,42 @@ mark_of _ = []
 abbrev pub what_text : Horizontal → List ℕ
 what_text body = name_of body ++ mark_of body
 
--- ---- acts
+-- ---- places
+
+-- a place word: the number of a machine or a gap, and behind a point the lane from lane 2 on
+abbrev pub place_text : ℕ → ℕ → List ℕ
+place_text lane number =
+    if lane == 1 then decimal number else decimal number ++ codes "." ++ decimal lane
 
 -- a word, and a number behind it
 abbrev pub numbered : List ℕ → ℕ → List ℕ
 numbered word number = word ++ codes " " ++ decimal number
 
+-- a word, and a place word behind it
+abbrev pub placed : List ℕ → ℕ → ℕ → List ℕ
+placed word lane number = word ++ codes " " ++ place_text lane number
+
 -- the same, and an id behind them
-abbrev pub of_board : List ℕ → ℕ → ℕ → List ℕ
-of_board word number id = numbered word number ++ codes " " ++ id_text id
+abbrev pub board_on : List ℕ → ℕ → ℕ → ℕ → List ℕ
+board_on word lane number id = placed word lane number ++ codes " " ++ id_text id
 
 -- the same, and a side behind them
-abbrev pub at_side : List ℕ → ℕ → Side → List ℕ
-at_side word machine side = numbered word machine ++ codes " " ++ side_text side
+abbrev pub side_on : List ℕ → ℕ → ℕ → Side → List ℕ
+side_on word lane machine side = placed word lane machine ++ codes " " ++ side_text side
+
+-- ---- acts
 
 -- the gap of a deed: that behind the machine for a board on its way out, that before it for one on
 -- its way in
-abbrev pub deed_text : ℕ → Deed → List ℕ
-deed_text machine (deeds.Opens id) = of_board (codes "opens") machine id
-deed_text machine (deeds.Refuses id) = of_board (codes "refuses") machine id
-deed_text machine (deeds.Leaves id) = of_board (codes "leaves") machine id
-deed_text machine (deeds.Returns id) = of_board (codes "returns") machine id
-deed_text machine (deeds.Loses id) = of_board (codes "loses") machine id
-deed_text machine (deeds.Starts id) = of_board (codes "starts") (machine - 1) id
-deed_text machine (deeds.Settles id) = of_board (codes "settles") (machine - 1) id
-deed_text machine (deeds.Drops id) = of_board (codes "drops") (machine - 1) id
+abbrev pub deed_on : ℕ → ℕ → Deed → List ℕ
+deed_on lane machine (deeds.Opens id) = board_on (codes "opens") lane machine id
+deed_on lane machine (deeds.Refuses id) = board_on (codes "refuses") lane machine id
+deed_on lane machine (deeds.Leaves id) = board_on (codes "leaves") lane machine id
+deed_on lane machine (deeds.Returns id) = board_on (codes "returns") lane machine id
+deed_on lane machine (deeds.Loses id) = board_on (codes "loses") lane machine id
+deed_on lane machine (deeds.Starts id) = board_on (codes "starts") lane (machine - 1) id
+deed_on lane machine (deeds.Settles id) = board_on (codes "settles") lane (machine - 1) id
+deed_on lane machine (deeds.Drops id) = board_on (codes "drops") lane (machine - 1) id
 
 abbrev pub will_word : Bool → List ℕ
 will_word true = codes "go"
@@ -179,16 +195,17 @@ signal_word signals.EntryAvailable = codes "entry-available"
 signal_word signals.EntryFailed = codes "entry-failed"
 signal_word signals.ExitReady = codes "exit-ready"
 
--- a word, a machine's number, a signal, and whether it is on
-abbrev pub switched : List ℕ → ℕ → List ℕ → Bool → List ℕ
-switched word machine signal on =
-    numbered word machine ++ codes " " ++ signal ++ codes " " ++ switch_word on
+-- a word, a machine's place, a signal, and whether it is on
+abbrev pub switched_on : List ℕ → ℕ → ℕ → List ℕ → Bool → List ℕ
+switched_on word lane machine signal on =
+    placed word lane machine ++ codes " " ++ signal ++ codes " " ++ switch_word on
 
-abbrev pub setting_text : ℕ → Setting → List ℕ
-setting_text machine (settings.Will side on) = at_side (will_word on) machine side
-setting_text machine (settings.Level line on) =
-    switched (codes "level") machine (line_word line) on
-setting_text machine (settings.Supervise on) =
+-- a supervisor is of the machine, and of no lane
+abbrev pub setting_on : ℕ → ℕ → Setting → List ℕ
+setting_on lane machine (settings.Will side on) = side_on (will_word on) lane machine side
+setting_on lane machine (settings.Level line on) =
+    switched_on (codes "level") lane machine (line_word line) on
+setting_on lane machine (settings.Supervise on) =
     numbered (codes "supervise") machine ++ codes " " ++ switch_word on
 
 -- how a board came or went, by its number in the standard's channel
@@ -211,69 +228,107 @@ told_text machine (vertical.QueryWorkOrderInfo query question) =
     numbered (numbered (codes "asks") machine) query
 told_text machine body = numbered (codes "tells") machine ++ codes " " ++ vertical_name_of body
 
--- a drive has no text: no happening is one
-abbrev pub act_text : ℕ → Act → List ℕ
-act_text machine (acts.Reads side event) =
-    at_side (codes "reads") machine side ++ codes " " ++ event_text event
-act_text machine (acts.Hears side message) =
-    at_side (codes "hears") machine side ++ codes " " ++ what_text message.body
-act_text machine (acts.Breaches side text) =
-    at_side (codes "breach") machine side ++ codes " " ++ in_line text
-act_text machine (acts.Sends side message) =
-    at_side (codes "sends") machine side ++ codes " " ++ what_text message.body
-act_text machine (acts.Closes side) = at_side (codes "closes") machine side
-act_text machine (acts.Notices side) = at_side (codes "notices") machine side
-act_text machine acts.Connects = numbered (codes "connects") machine
-act_text machine (acts.Deed deed) = deed_text machine deed
-act_text machine (acts.Drive side on) = []
-act_text machine (acts.Signals signal on) =
-    switched (codes "signals") machine (signal_word signal) on
-act_text machine (acts.Marks id quality) =
-    of_board (codes "mark") machine id ++ codes " " ++ quality_text quality
-act_text machine (acts.Subs id place) = numbered (of_board (codes "sub") machine id) place
-act_text machine (acts.Inserts id) = of_board (codes "insert") machine id
-act_text machine (acts.Removes id) = of_board (codes "remove") machine id
-act_text machine (acts.Replaces old new) =
-    of_board (codes "replace") machine old ++ codes " " ++ id_text new
-act_text machine (acts.Tells message) = told_text machine message.body
-act_text machine (acts.Answered query order) =
+-- a drive has no text: no happening is one. Nor has the coming of a board from another lane, which is
+-- told as the shift of the lane that gives it
+abbrev pub act_on : ℕ → ℕ → Act → List ℕ
+act_on lane machine (acts.Reads side event) =
+    side_on (codes "reads") lane machine side ++ codes " " ++ event_text event
+act_on lane machine (acts.Hears side message) =
+    side_on (codes "hears") lane machine side ++ codes " " ++ what_text message.body
+act_on lane machine (acts.Breaches side text) =
+    side_on (codes "breach") lane machine side ++ codes " " ++ in_line text
+act_on lane machine (acts.Sends side message) =
+    side_on (codes "sends") lane machine side ++ codes " " ++ what_text message.body
+act_on lane machine (acts.Closes side) = side_on (codes "closes") lane machine side
+act_on lane machine (acts.Notices side) = side_on (codes "notices") lane machine side
+act_on lane machine acts.Connects = placed (codes "connects") lane machine
+act_on lane machine (acts.Deed deed) = deed_on lane machine deed
+act_on lane machine (acts.Drive side on) = []
+act_on lane machine (acts.Signals signal on) =
+    switched_on (codes "signals") lane machine (signal_word signal) on
+act_on lane machine (acts.Marks id quality) =
+    board_on (codes "mark") lane machine id ++ codes " " ++ quality_text quality
+act_on lane machine (acts.Subs id place) =
+    numbered (board_on (codes "sub") lane machine id) place
+act_on lane machine (acts.Inserts id) = board_on (codes "insert") lane machine id
+act_on lane machine (acts.Removes id) = board_on (codes "remove") lane machine id
+act_on lane machine (acts.Replaces old new) =
+    board_on (codes "replace") lane machine old ++ codes " " ++ id_text new
+act_on lane machine (acts.Tells message) = told_text machine message.body
+act_on lane machine (acts.Answered query order) =
     numbered (numbered (codes "answered") machine) query ++ codes " " ++ in_line order
-act_text machine (acts.Sets setting) = setting_text machine setting
+act_on lane machine (acts.Sets setting) = setting_on lane machine setting
+act_on lane machine (acts.Gives id to) =
+    placed (codes "shift") lane machine ++ codes " " ++ place_text to machine
+    ++ codes " " ++ id_text id
+act_on lane machine (acts.Gets id) = []
 
 -- ---- happenings
 
--- the gap between two neighbours, by their numbers
-abbrev pub between_text : ℕ → List ℕ
-between_text gap = decimal gap ++ codes "-" ++ decimal (gap + 1)
+-- the gap between two neighbours, by their places
+abbrev pub between_on : ℕ → ℕ → List ℕ
+between_on lane gap = place_text lane gap ++ codes "-" ++ place_text lane (gap + 1)
 
-abbrev pub happening_text : Happening → List ℕ
-happening_text (happenings.Machine number capacity) =
+-- what is of the machine or of the line names no lane
+abbrev pub happening_on : ℕ → Happening → List ℕ
+happening_on lane (happenings.Lanes count) = numbered (codes "lanes") count
+happening_on lane (happenings.Machine number capacity) =
     numbered (numbered (codes "machine") number) capacity
-happening_text (happenings.Bridge number capacity) =
+happening_on lane (happenings.Bridge number capacity) =
     numbered (numbered (codes "bridge") number) capacity
-happening_text (happenings.Done machine act) = act_text machine act
-happening_text (happenings.Cut gap) = numbered (codes "cut") gap
-happening_text (happenings.Stop machine) = numbered (codes "stop") machine
-happening_text (happenings.Spoils machine side) = at_side (codes "spoils") machine side
-happening_text (happenings.Moved gap step) =
-    numbered (codes "move") gap ++ codes " " ++ move_word step
-happening_text (happenings.Lie machine sensed) =
-    at_side (codes "lie") machine sensed.side ++ codes " " ++ event_text sensed.event
-happening_text (happenings.Unseen machine side) =
-    codes "unseen " ++ side_text side ++ codes " " ++ decimal machine
-happening_text happenings.Unvouched = codes "unvouched"
-happening_text (happenings.No reason) = codes "no: " ++ reason_text reason
-happening_text (happenings.Shown machine id quality) =
-    of_board (codes "show") machine id ++ codes " " ++ quality_text quality
-happening_text (happenings.ShownBetween gap id) =
-    codes "show " ++ between_text gap ++ codes " " ++ id_text id
-happening_text (happenings.With machine id) = of_board (codes "with") machine id
-happening_text (happenings.Between gap id) = of_board (codes "between") gap id
-happening_text (happenings.Gone id) = codes "gone " ++ id_text id
+happening_on lane (happenings.Done machine act) = act_on lane machine act
+happening_on lane (happenings.Cut gap) = placed (codes "cut") lane gap
+happening_on lane (happenings.Stop machine) = numbered (codes "stop") machine
+happening_on lane (happenings.Spoils machine side) = side_on (codes "spoils") lane machine side
+happening_on lane (happenings.Moved gap step) =
+    placed (codes "move") lane gap ++ codes " " ++ move_word step
+happening_on lane (happenings.Lie machine sensed) =
+    side_on (codes "lie") lane machine sensed.side ++ codes " " ++ event_text sensed.event
+happening_on lane (happenings.Unseen machine side) =
+    codes "unseen " ++ side_text side ++ codes " " ++ place_text lane machine
+happening_on lane happenings.Unvouched = codes "unvouched"
+happening_on lane (happenings.No reason) = codes "no: " ++ reason_text reason
+happening_on lane (happenings.Shown machine id quality) =
+    board_on (codes "show") lane machine id ++ codes " " ++ quality_text quality
+happening_on lane (happenings.ShownBetween gap id) =
+    codes "show " ++ between_on lane gap ++ codes " " ++ id_text id
+happening_on lane (happenings.With machine id) = board_on (codes "with") lane machine id
+happening_on lane (happenings.Between gap id) = board_on (codes "between") lane gap id
+happening_on lane (happenings.Gone id) = codes "gone " ++ id_text id
 
 -- one line of the report
+abbrev pub entry_on : ℕ → LaneHappening → List ℕ
+entry_on number happening =
+    decimal number ++ codes " " ++ happening_on happening.lane happening.what ++ codes "\n"
+
+-- ---- the same on lane 1
+
+abbrev pub of_board : List ℕ → ℕ → ℕ → List ℕ
+of_board word number id = board_on word 1 number id
+
+abbrev pub at_side : List ℕ → ℕ → Side → List ℕ
+at_side word machine side = side_on word 1 machine side
+
+abbrev pub switched : List ℕ → ℕ → List ℕ → Bool → List ℕ
+switched word machine signal on = switched_on word 1 machine signal on
+
+abbrev pub deed_text : ℕ → Deed → List ℕ
+deed_text machine deed = deed_on 1 machine deed
+
+abbrev pub setting_text : ℕ → Setting → List ℕ
+setting_text machine setting = setting_on 1 machine setting
+
+abbrev pub act_text : ℕ → Act → List ℕ
+act_text machine act = act_on 1 machine act
+
+abbrev pub between_text : ℕ → List ℕ
+between_text gap = between_on 1 gap
+
+abbrev pub happening_text : Happening → List ℕ
+happening_text happening = happening_on 1 happening
+
 abbrev pub entry : ℕ → Happening → List ℕ
-entry number happening = decimal number ++ codes " " ++ happening_text happening ++ codes "\n"
+entry number happening = entry_on number (record { lane = 1; what = happening })
 
 -- ---- the report's last line
 

@@ -4,7 +4,7 @@
 ghost use Rattle.std.specs.Prelude.{◌≡◌, [], ◌∷◌, ◌++◌, OnOk, codes, decimal};
 ghost use Rattle.board_record.specs.BoardId.{id_text};
 ghost use Rattle.hermes_element.specs.Standing.{StillStands};
-ghost use Rattle.line_report.specs.Texts.{byte_in_line, in_line};
+ghost use Rattle.line_report.specs.Texts.{byte_in_line, in_line, place_text};
 
 use board_record::BoardId;
 use line_base::Memory;
@@ -55,6 +55,28 @@ pub fn append_digits(number: u64, to: &mut Vec<u8>) -> Result<(), Memory>
         return append_one(b'0' + number as u8, to);
     }
     append(itoa::Buffer::new().format(number).as_bytes(), to)
+}
+
+/// Appends a place word: a number, and the lane behind a point from lane 2 on.
+#[inline(always)]
+pub fn append_place(lane: u32, number: u64, to: &mut Vec<u8>) -> Result<(), Memory>
+    ensures kept { StillStands to.old.items to.new.items }
+    ensures written { OnOk result (to.new.items ≡ to.old.items ++ place_text lane number) }
+{
+    if lane == 1 {
+        return append_digits(number, to);
+    }
+    append_lane(lane, number, to)
+}
+
+fn append_lane(lane: u32, number: u64, to: &mut Vec<u8>) -> Result<(), Memory>
+    ensures kept { StillStands to.old.items to.new.items }
+    ensures written { OnOk result
+        (to.new.items ≡ to.old.items ++ (decimal number ++ codes "." ++ decimal lane)) }
+{
+    append_digits(number, to)?;
+    append(b".", to)?;
+    append_digits(u64::from(lane), to)
 }
 
 /// A space and a word.

@@ -1,4 +1,4 @@
-ghost use Rattle.std.specs.Prelude.{◌≡◌, [], ◌∷◌, ◌++◌, OnErr, OnOk};
+ghost use Rattle.std.specs.Prelude.{◌≡◌, ◌≤◌, [], ◌∷◌, ◌++◌, IfOk, OnErr, OnOk, drop, length, take};
 
 use crate::happening::Happening;
 use line_base::Memory;
@@ -45,6 +45,26 @@ impl Happened {
         let mut next = next;
         self.list.append(&mut next.list)?;
         Ok(())
+    }
+
+    /// Cuts off all from a place on. `Memory` where there is none for it.
+    pub(crate) fn split_off(&mut self, at: usize) -> Result<Happened, Memory>
+        requires { at ≤ length self.old }
+        ensures front { OnOk result (self.new ≡ take at self.old) }
+        ensures rest { IfOk result (λ rest. rest ≡ drop at self.old) }
+    {
+        let list = self.list.split_off(at)?;
+        Ok(Happened { list })
+    }
+
+    /// Leaves out the first, if there is one.
+    pub(crate) fn drop_first(&mut self)
+        ensures { self.new ≡ drop 1 self.old }
+    {
+        if self.list.is_empty() {
+            return;
+        }
+        drop(self.list.remove(0));
     }
 
     /// Adds what happened next. `Memory` where there is none for it; nothing is added then.

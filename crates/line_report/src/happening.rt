@@ -17,6 +17,10 @@ pub enum Reason {
     NoSuchMachine,
     /// The line has 64 machines.
     LineFull,
+    /// The line has no such lane.
+    NoLane,
+    /// A line with machines gets no other number of lanes.
+    MachinesStand,
     /// The machine keeps the board's record, but the board itself lies elsewhere.
     NotHere,
     /// There is no machine at that side.
@@ -36,6 +40,10 @@ pub enum Reason {
 /// One thing that a line of a script does. Each is one line of the report.
 #[derive(Debug, Drop)]
 pub enum Happening {
+    /// The line has so many lanes from now on.
+    Lanes {
+        count: u32,
+    },
     /// A machine was added at the line's end.
     Machine {
         number: u32,
@@ -110,6 +118,13 @@ pub enum Happening {
     },
 }
 
+/// A happening on a lane, 1 to 4. What is of all lanes is told of lane 1.
+#[derive(Debug, Drop)]
+pub struct LaneHappening {
+    pub lane: u32,
+    pub what: Happening,
+}
+
 /// A machine's own reason in words.
 pub(crate) fn no_text(no: No) -> &'static str
     ensures { result.now ≡ no_words no }
@@ -135,5 +150,7 @@ pub(crate) fn no_text(no: No) -> &'static str
         No::UnknownQuery => "unknown query",
         No::Answered(_) => "answered",
         No::SubsFull => "subs full",
+        No::NoLane => "no lane",
+        No::WasOffered => "was offered",
     }
 }

@@ -8,12 +8,17 @@
 mod bytes;
 mod happened;
 mod happening;
+mod lanes;
+mod place;
+mod shift;
 mod summary;
 mod texts;
 mod words;
 
 pub use happened::Happened;
-pub use happening::{Happening, Reason};
+pub use happening::{Happening, LaneHappening, Reason};
+pub use lanes::{LaneHappened, LanePart, LaneParts, write_all};
+pub use shift::tell_shift;
 pub use summary::{Summary, write_summary};
-pub use texts::{write_act, write_happening, write_reason};
+pub use texts::{write_act, write_happening, write_on, write_reason};
 pub use words::{quality_word, side_word};

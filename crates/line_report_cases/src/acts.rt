@@ -83,6 +83,11 @@ fn by_hand_of(what: &str, first: &str, second: &str) -> Act {
             id,
             pos: second.parse().unwrap_or(0),
         },
+        "Gives" => Act::Gives {
+            id,
+            to: second.parse().unwrap_or(0),
+        },
+        "Gets" => Act::Gets { id },
         "Inserts" => Act::Inserts(id),
         "Removes" => Act::Removes(id),
         "Replaces" => Act::Replaces(id, id_of(second)),

@@ -31,6 +31,7 @@ fn numbered_of(what: &str, about: &str) -> Happening {
     let (number, rest) = parted(about);
     let number = number_of(number);
     match what {
+        "Lanes" => Happening::Lanes { count: number },
         "Machine" => Happening::Machine {
             number,
             capacity: number_of(rest),

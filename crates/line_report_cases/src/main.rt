@@ -8,7 +8,10 @@ mod reasons;
 mod values;
 
 use line_base::Memory;
-use line_report::{Summary, write_happening, write_summary};
+use line_report::{
+    Happened, Happening, LaneHappened, Summary, tell_shift, write_all, write_happening, write_on,
+    write_summary,
+};
 use std::alloc::Global;
 use std::io;
 use std::io::{ErrorKind, Write};
@@ -29,6 +32,8 @@ fn tell_case(alloc: Global, case: &str, to: &mut Vec<u8>) -> io::Result<()> {
     write!(to, "{case} = ")?;
     let told = match case.split_once(' ') {
         Some(("Summary", numbers)) => write_summary(&summary_of(numbers), to),
+        Some(("On", about)) => tell_on(alloc, about, to),
+        Some(("Shift", about)) => tell_shifted(alloc, about, to),
         Some((what, about)) => tell(alloc, what, about, to),
         None => tell(alloc, case, "", to),
     };
@@ -42,6 +47,45 @@ fn tell_case(alloc: Global, case: &str, to: &mut Vec<u8>) -> io::Result<()> {
 fn tell(alloc: Global, what: &str, about: &str, to: &mut Vec<u8>) -> Result<(), Memory> {
     let happening = happenings::happening_of(alloc, what, about)?;
     write_happening(7, &happening, to)
+}
+
+/// Appends the text of a happening on a lane: the lane, and then the happening's words.
+fn tell_on(alloc: Global, about: &str, to: &mut Vec<u8>) -> Result<(), Memory> {
+    let (lane, words) = values::parted(about);
+    let (what, about) = values::parted(words);
+    let happening = happenings::happening_of(alloc, what, about)?;
+    write_on(7, values::number_of(lane), &happening, to)
+}
+
+/// Appends the texts of a shift: its lanes, and then what was told on each, with ` / ` between.
+fn tell_shifted(alloc: Global, about: &str, to: &mut Vec<u8>) -> Result<(), Memory> {
+    let (from, words) = values::parted(about);
+    let (lane, words) = values::parted(words);
+    let (given, got) = match words.split_once(" / ") {
+        Some(both) => both,
+        None => (words, ""),
+    };
+    let given = told_of(alloc, given)?;
+    let got = told_of(alloc, got)?;
+    let mut told = LaneHappened::new(alloc);
+    tell_shift(
+        values::number_of(from),
+        given,
+        values::number_of(lane),
+        got,
+        &mut told,
+    )?;
+    write_all(7, &told, to)
+}
+
+/// What machine 3 did: its acts, with `, ` between.
+fn told_of(alloc: Global, acts: &str) -> Result<Happened, Memory> {
+    let mut told = Happened::new(alloc);
+    for act in acts.split(", ") {
+        let act = acts::act_of(alloc, act)?;
+        told.tell(Happening::Done { machine: 3, act })?;
+    }
+    Ok(told)
 }
 
 fn summary_of(numbers: &str) -> Summary {

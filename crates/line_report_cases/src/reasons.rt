@@ -21,6 +21,8 @@ fn line_reason_of(word: &str) -> Reason {
     match word {
         "NoSuchMachine" => Reason::NoSuchMachine,
         "LineFull" => Reason::LineFull,
+        "NoLane" => Reason::NoLane,
+        "MachinesStand" => Reason::MachinesStand,
         "NotHere" => Reason::NotHere,
         "NoNeighbour" => Reason::NoNeighbour,
         "NothingInFlight" => Reason::NothingInFlight,
@@ -59,6 +61,9 @@ fn no_of(word: &str) -> Option<No> {
         "NotSupervised" => No::NotSupervised,
         "QueriesFull" => No::QueriesFull,
         "UnknownQuery" => No::UnknownQuery,
+        "SubsFull" => No::SubsFull,
+        "NoOwnLane" => No::NoLane,
+        "WasOffered" => No::WasOffered,
         _ => return None,
     })
 }
