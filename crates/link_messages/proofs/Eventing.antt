@@ -52,6 +52,7 @@ event_of_fits maker (inputs.Insert barcode) words m i heard = insert_fits (next_
 event_of_fits maker (inputs.Replace id) words m i heard = replace_fits (next_id maker) id (new_fits maker m)
 event_of_fits maker (inputs.Query barcode) words m i heard = i
 event_of_fits maker (inputs.Sub id place barcode) words m i heard = record { place = i.0; barcode = proper_barcode barcode i.1 }
+event_of_fits maker (inputs.Gets board) words m i heard = i
 event_of_fits maker _ words m i heard = tt
 
 after_at : (test : Bool) (maker : Maker) → nat_le (2 ^ 48 - 1) maker.used ≡ test → IsFitMaker maker → IsFitMaker (after_next maker)

@@ -26,12 +26,12 @@ use Rattle.session_core.specs.Row.{session_row}
 use Rattle.handover_out.specs.declared.input.OutInput.TheVariants as out_input
 use Rattle.handover_in.specs.declared.input.InInput.TheVariants as in_input
 use Rattle.node_core.specs.Announces.{announces, offer, offer_by, offers_now, readies_now, ready, ready_by, revoke, revoke_by, revokes_now, start, start_by, starts_now, unreadies_now, unready, unready_by}
-use Rattle.node_core.specs.Boards.{faults, if_kept, inserts, is_kept, marks, removes, replaces, wills, with_instead, with_kept, without, takes_sub, adds_sub, first_passes, with_changed}
+use Rattle.node_core.specs.Boards.{faults, gets, gives, if_kept, inserts, is_kept, marks, removes, replaces, wills, with_instead, with_kept, without, takes_sub, adds_sub, first_passes, with_changed}
 use Rattle.node_core.specs.Bridge.{failed_front, fails, sets_level, tells_level}
 use Rattle.node_core.specs.Connect.{both_shut_down, both_tick, meets_second, notices, opens, shuts_down, ticks}
 use Rattle.node_core.specs.Desk.{Desk}
 use Rattle.node_core.specs.Done.{and_then, behind, done}
-use Rattle.node_core.specs.Event.{Accepted, Connect, Event, Fault, Forecast, Insert, Level, Mark, Sub, Nothing, Notice, Query, Remove, Replace, Second, Shutdown, Supervised, Tick, Will, Words, event_did}
+use Rattle.node_core.specs.Event.{Accepted, Connect, Event, Fault, Forecast, Gets, Gives, Insert, Level, Mark, Sub, Nothing, Notice, Query, Remove, Replace, Second, Shutdown, Supervised, Tick, Will, Words, event_did}
 use Rattle.node_core.specs.Halves.{ended}
 use Rattle.node_core.specs.Reads.{all_read, reads, saw}
 use Rattle.node_core.specs.Sides.{is_open, session_at}
@@ -162,6 +162,13 @@ inserts_fit desk id barcode body small top d b = by_hand body (body.kept ++ plai
 removes_fit : (id : ℕ) (body : Body) → IsFitBody body → Fits (removes id body)
 removes_fit id body b = where_kept (is_kept id body.kept) (with_kept (without id body.kept) body) body (acts.Removes id) b (by_hand body (without id body.kept) (acts.Removes id) tt b (without_fits id body.kept b.kept))
 
+-- a board goes to another lane of the machine, or comes from one
+gives_fit : (id to : ℕ) (body : Body) → IsFitBody body → Fits (gives id to body)
+gives_fit id to body b = where_kept (is_kept id body.kept) (with_kept (without id body.kept) body) body (acts.Gives id to) b (by_hand body (without id body.kept) (acts.Gives id to) tt b (without_fits id body.kept b.kept))
+
+gets_fit : (board : Record) (body : Body) → IsFitRecord board → IsFitBody body → Fits (gets board body)
+gets_fit board body one b = by_hand body (body.kept ++ board ∷ []) (acts.Gets board.id) tt b (behind_fits b.kept one)
+
 replaces_fit : (desk : Desk) (old new : ℕ) (body : Body) → IsFitId new → IsFitDesk desk → IsFitBody body → Fits (replaces desk old new body)
 replaces_fit desk old new body small d b =
     let other : Record = plain_record new desk.name None in
@@ -232,6 +239,8 @@ event_fits desk (Level line on) body given d b = sets_level_fits desk line on bo
 event_fits desk Forecast body given d b = fits_told body _ b (forecasts_fit desk (slice_get body.kept 0) d (front_fits body.kept b.kept))
 event_fits desk (Query barcode) body given d b = fits_told body _ b (sent desk Entry (bodies.QueryBoardInfo (Some barcode) None) d (question_fits barcode given))
 event_fits desk (Supervised what) body given d b = supervises_fit desk what body b
+event_fits desk (Gives id to) body given d b = gives_fit id to body b
+event_fits desk (Gets board) body given d b = gets_fit board body given b
 
 -- ---- announcements
 

@@ -125,21 +125,23 @@ pub data AreFitWords : List Word → Type 0 where
       → AreFitWords (words.Wrong text ∷ others)
 
 -- an event: its words, the ids that it makes, the barcode of a new board, the one that is asked
--- for, and a circuit
+-- for, a circuit, and the record of a board from another lane
 abbrev pub IsFitEvent : Event → Type 0
 IsFitEvent (events.Words side heard) = AreFitWords heard
 IsFitEvent (events.Insert id barcode) = IsFitId id × IsTextIf barcode
 IsFitEvent (events.Replace old new) = IsFitId new
 IsFitEvent (events.Query barcode) = IsText barcode
 IsFitEvent (events.Sub id sub) = IsFitSub sub
+IsFitEvent (events.Gets board) = IsFitRecord board
 IsFitEvent _ = Unit {0}
 
--- an input: the barcode of a board that is put in, the one that is asked for, and what is said of a
--- circuit
+-- an input: the barcode of a board that is put in, the one that is asked for, what is said of a
+-- circuit, and the record of a board from another lane
 abbrev pub IsFitInput : Input → Type 0
 IsFitInput (inputs.Insert barcode) = IsTextIf barcode
 IsFitInput (inputs.Query barcode) = IsText barcode
 IsFitInput (inputs.Sub id place barcode) = (place ≤ 999_999_999) × IsTextIf barcode
+IsFitInput (inputs.Gets board) = IsFitRecord board
 IsFitInput _ = Unit {0}
 
 -- the number of a machine has 32 bits

@@ -51,14 +51,15 @@ pub fn fit_messages_are_sayable()
 
 /// A machine whose name is a text and whose lane has at most nine digits, and whose records are
 /// fit, sends fit messages alone in a step, and its records stay fit: whatever befalls it, where
-/// the words that it hears are fit, and the ids and the barcode of a change by hand.
+/// the words that it hears are fit, the ids and the barcode of a change by hand, and the record of a
+/// board that comes from another lane.
 pub fn a_machine_says_what_is_fit()
     ensures { (desk : Desk) (unread : List Sensed) (event : Event) (body : Body) → IsFitDesk desk
         → IsFitEvent event → IsFitBody body → Fits (machine_step desk unread event body) }
 {}
 
-/// The event that an input is, is fit where its words and its barcode are, and the machine's
-/// number has 32 bits.
+/// The event that an input is, is fit where its words, its barcode and the record that comes with it
+/// are, and the machine's number has 32 bits.
 pub fn the_event_of_a_fit_input_is_fit()
     ensures { (maker : Maker) (input : Input) (words : List Word) → IsFitMaker maker
         → IsFitInput input → AreFitWords words → IsFitEvent (event_of maker input words)

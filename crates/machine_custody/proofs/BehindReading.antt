@@ -5,7 +5,7 @@ use Rattle.line_base.specs.declared.states.Side.{Side}
 use Rattle.line_base.specs.declared.states.Side.TheVariants.{Entry, Exit}
 use Rattle.board_record.specs.declared.record.Record.{Record}
 use Rattle.board_record.specs.declared.sensed.Sensed.{Sensed}
-use Rattle.handover_out.specs.Row.{OutRow, outlet_row}
+use Rattle.handover_out.specs.Row.{OutRow, last_after, outlet_row}
 use Rattle.handover_out.specs.State.{OutState}
 use Rattle.handover_out.specs.Table.{IsOutletRow, back_again, back_ended, back_idle, back_moving, back_stopped, back_stuck, back_unlinked, begun_again, begun_ended, begun_idle, begun_moving, begun_stuck, full_ended, full_idle, full_moving, full_stuck, left_ended, left_idle, left_moving, left_stopped, left_stuck, left_unlinked, taken_ended, taken_home, taken_idle, taken_moving, taken_stopped, taken_stuck, taken_unlinked}
 use Rattle.handover_out.specs.declared.act.OutDeed.{OutDeed}
@@ -129,6 +129,27 @@ saw_idle desk Exit event body is = ap (λ (s : InState). s.phase) (outlet_apart 
 
 pub read_idle : (desk : Desk) (unread : List Sensed) (body : Machine) (c : Scene) → body.intake.phase ≡ inn.Idle → (all_read desk unread body).body.intake.phase ≡ inn.Idle
 read_idle desk unread body c is = all_keep (λ b d. b.intake.phase ≡ inn.Idle) desk (λ at event b d is. saw_idle desk at event b is) unread body c is
+
+-- ---- what was offered last: no sensor event offers
+
+last_row : (s : OutState) (event : SensorEvent) (row : OutRow) (last : Option ℕ) → IsOutletRow s (out_input.Sensed event) row → last_after row last ≡ last
+last_row _ _ _ last begun_moving = refl
+last_row _ _ _ last _ = refl
+
+last_took : (desk : Desk) (body : Machine) (event : SensorEvent) (row : Option OutRow) → outlet_row body.outlet (out_input.Sensed event) ≡ row → (outlet_row_did desk body row).body.last_offer ≡ body.last_offer
+last_took desk body event None found = refl
+last_took desk body event (Some row) found = last_row body.outlet event row body.last_offer (row_is body.outlet (out_input.Sensed event) row found)
+
+last_apart : (desk : Desk) (body : Machine) (row : Option InRow) → (intake_row_did desk body row).body.last_offer ≡ body.last_offer
+last_apart desk body None = refl
+last_apart desk body (Some row) = refl
+
+saw_last : (desk : Desk) (at : Side) (event : SensorEvent) (body : Machine) → (saw desk at event body).body.last_offer ≡ body.last_offer
+saw_last desk Entry event body = last_apart desk body (intake_row body.intake (in_input.Sensed event))
+saw_last desk Exit event body = last_took desk body event (outlet_row body.outlet (out_input.Sensed event)) refl
+
+pub read_last : (desk : Desk) (unread : List Sensed) (body : Machine) (c : Scene) → (all_read desk unread body).body.last_offer ≡ body.last_offer
+read_last desk unread body c = all_keep (λ b d. b.last_offer ≡ body.last_offer) desk (λ at event b d is. saw_last desk at event b ∙ is) unread body c refl
 
 -- ---- a board that was never offered
 

@@ -10,7 +10,7 @@ use Rattle.line_world.specs.declared.board.Board.{Board}
 use Rattle.handover_out.specs.State.{board_of_phase as held_out}
 use Rattle.handover_in.specs.declared.phase.Phase.{Phase as In}
 use Rattle.handover_in.specs.declared.phase.Phase.TheVariants as inn
-use Rattle.node_core.specs.Boards.{adds_sub, if_kept, inserts, is_kept, marks, removes, replaces, takes_sub, with_instead, with_kept, with_mark, with_sub, without}
+use Rattle.node_core.specs.Boards.{adds_sub, gives, if_kept, inserts, is_kept, marks, removes, replaces, takes_sub, with_instead, with_kept, with_mark, with_sub, without}
 use Rattle.node_core.specs.Desk.{Desk}
 use Rattle.node_core.specs.declared.act.Act.TheVariants as acts
 use Rattle.node_core.specs.declared.lane.Body.{Body as Machine}
@@ -23,9 +23,10 @@ use Rattle.custody.proofs.Hands.{body_inserted, body_marked}
 use Rattle.custody.proofs.HandsContents.{contents_given, contents_gone, contents_inserted, contents_marked, contents_removed, contents_replaced}
 use Rattle.custody.proofs.HandsFloor.{removes_board, replaces_board}
 use Rattle.machine_custody.specs.Scene.{Scene, all_met, link_below}
-use Rattle.machine_custody.specs.ByHand.{AreHere, Grows}
+use Rattle.machine_custody.specs.ByHand.{AreHere, Grows, IsNotLast}
 use Rattle.machine_custody.specs.Good.{Afar, Good}
 use Rattle.machine_custody.proofs.Elsewhere.{apart_from}
+use Rattle.machine_custody.proofs.Keeping.{lies_without}
 use Rattle.machine_custody.proofs.Holding.{front_given, front_inserted, front_marked, front_replaced, front_taken, holds_more}
 
 -- the relation behind a change of the kept records and of the boards on the floor
@@ -190,3 +191,14 @@ gets_good {afar = afar} {ga = ga} {gb = gb} {body = body} {c = c} board idle g h
     (subst (λ (i : In). Body body.outlet.phase gb.place (body.kept ++ board ∷ []) i ga.place (c.boards ++ record { id = Some board.id } ∷ [])) (sym idle)
     (body_inserted board (subst (λ (i : In). Body body.outlet.phase gb.place body.kept i ga.place c.boards) idle g.boards)))
     (contents_inserted board (λ x is. is) g.below_contents)
+
+-- the micro event, whether the board is kept or not
+gives_by : {afar : Afar} {above : List Record} {us : List Sensed} {ga gb : Ghost} {body : Machine} {c : Scene} (id to : ℕ) (test : Bool) → is_kept id body.kept ≡ test → IsNotLast id body
+    → Good afar above us ga gb body c
+    → Good afar above us ga gb (if_kept test (with_kept (without id body.kept) body) (acts.Gives id to) body).body (all_met (if_kept test (with_kept (without id body.kept) body) (acts.Gives id to) body).acts c)
+gives_by {c = c} id to true there other g = gives_good id there other g (λ x l. g.here x (lies_without id c.boards l))
+gives_by id to false there other g = g
+
+pub goes_to_lane : {afar : Afar} {above : List Record} {us : List Sensed} {ga gb : Ghost} {body : Machine} {c : Scene} (id to : ℕ) → IsNotLast id body
+    → Good afar above us ga gb body c → Good afar above us ga gb (gives id to body).body (all_met (gives id to body).acts c)
+goes_to_lane {body = body} id to other g = gives_by id to (is_kept id body.kept) refl other g

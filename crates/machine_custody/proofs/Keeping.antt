@@ -1,6 +1,7 @@
 -- What a machine offers and keeps, in the words of the relation.
-use Rattle.std.proofs.Common.{Bool, List, Option, [], false, map, refl, subst, sym, true, ℕ, ◌++◌, ◌∷◌, ◌≡◌}
+use Rattle.std.proofs.Common.{Bool, List, None, Option, Some, [], false, map, refl, remove, subst, suc, sym, true, zero, ℕ, ◌++◌, ◌∷◌, ◌≡◌}
 use Rattle.board_record.specs.declared.record.Record.{Record}
+use Rattle.line_world.specs.FloorPlan.{place_of, without_board}
 use Rattle.line_world.specs.declared.board.Board.{Board}
 use Rattle.handover_out.specs.declared.phase.Phase.{Phase as Out}
 use Rattle.handover_in.specs.declared.phase.Phase.{Phase as In}
@@ -41,3 +42,18 @@ lies_kept bs (kept_later k) = lies_later (lies_kept bs k)
 
 pub kept_lies : {x : ℕ} {o : Out} {p : Place} {kept : List Record} {i : In} {q : Place} {boards : List Board} → Kept x kept → Body o p kept i q boards → Lies x boards
 kept_lies {x = x} k b = subst (λ bs. Lies x bs) (sym b.same) (lies_behind x _ _ (lies_kept _ k))
+
+-- ---- what lies there without a board lay there
+
+lies_less : {x : ℕ} (bs : List Board) (place : ℕ) → Lies x (remove bs place) → Lies x bs
+lies_less [] zero l = l
+lies_less [] (suc place) l = l
+lies_less (b ∷ bs) zero l = lies_later l
+lies_less (b ∷ bs) (suc place) lies_first = lies_first
+lies_less (b ∷ bs) (suc place) (lies_later l) = lies_later (lies_less bs place l)
+
+pub lies_without : {x : ℕ} (id : ℕ) (bs : List Board) → Lies x (without_board id bs) → Lies x bs
+lies_without {x = x} id bs = by (place_of id bs) where
+  by : (found : Option ℕ) → Lies x (elim found [ None ↦ bs | Some place ↦ remove bs place ]) → Lies x bs
+  by None l = l
+  by (Some place) l = lies_less bs place l

@@ -1,5 +1,5 @@
 -- A MACHINE'S STEP keeps the relation of both its links: the events that it reads, what befalls it, its announcements.
-use Rattle.std.proofs.Common.{Bool, List, None, Option, Some, [], subst, sym, true, ℕ, ◌++◌, ◌∷◌, ◌≡◌}
+use Rattle.std.proofs.Common.{Bool, List, None, Option, Some, [], subst, sym, true, ℕ, ◌++◌, ◌∙◌, ◌∷◌, ◌≡◌}
 use Rattle.line_base.specs.declared.states.Quality.{Quality}
 use Rattle.board_record.specs.Record.{plain_record}
 use Rattle.board_record.specs.declared.record.Record.{Record}
@@ -8,9 +8,9 @@ use Rattle.board_record.specs.declared.sub_board.SubBoard.{SubBoard}
 use Rattle.handover_in.specs.declared.phase.Phase.TheVariants as inn
 use Rattle.line_world.specs.FloorPlan.{with_new_id, without_board}
 use Rattle.line_world.specs.declared.board.Board.{Board}
-use Rattle.node_core.specs.Boards.{adds_sub, inserts, is_kept, marks, removes, replaces, takes_sub, with_instead, with_mark, with_sub, without}
+use Rattle.node_core.specs.Boards.{adds_sub, gets, gives, inserts, is_kept, marks, removes, replaces, takes_sub, with_instead, with_mark, with_sub, without}
 use Rattle.node_core.specs.Desk.{Desk}
-use Rattle.node_core.specs.Event.{Event, Insert, Mark, Remove, Replace, Sub, event_did}
+use Rattle.node_core.specs.Event.{Event, Gets, Gives, Insert, Mark, Remove, Replace, Sub, event_did}
 use Rattle.node_core.specs.Halves.{OffersFront}
 use Rattle.node_core.specs.Step.{machine_step}
 use Rattle.node_core.specs.declared.act.Act.TheVariants as acts
@@ -21,12 +21,12 @@ use Rattle.machine_custody.specs.Scene.{Scene, all_met}
 use Rattle.machine_custody.specs.Good.{Afar, GoesBy, Good, Lies}
 use Rattle.machine_custody.specs.Ahead.{GoesAhead, IsFreeRead}
 use Rattle.machine_custody.specs.Flight.{IsPlain}
-use Rattle.machine_custody.specs.ByHand.{AreHere, Grows, body_read, scene_read}
+use Rattle.machine_custody.specs.ByHand.{AreHere, Grows, IsNotLast, body_read, scene_read}
 use Rattle.machine_custody.specs.InTime.{IsMetInTime, IsReadEnough}
 use Rattle.machine_custody.specs.Unique.{IsFrontOnce, IsApart}
 use Rattle.machine_custody.proofs.Announcing.{all_free_read}
-use Rattle.machine_custody.proofs.BehindReading.{read_idle, read_lists, read_untouched}
-use Rattle.machine_custody.proofs.Handing.{inserts_good, marks_good, removes_good, replaces_good, subs_good}
+use Rattle.machine_custody.proofs.BehindReading.{read_idle, read_last, read_lists, read_untouched}
+use Rattle.machine_custody.proofs.Handing.{gets_good, goes_to_lane, inserts_good, marks_good, removes_good, replaces_good, subs_good}
 use Rattle.machine_custody.proofs.Elsewhere.{is_elsewhere}
 use Rattle.machine_custody.proofs.Far.{all_intake, all_outlet}
 use Rattle.machine_custody.proofs.Fronts.{step_ahead}
@@ -127,6 +127,33 @@ sub_ahead desk read id sub body c reads plain =
       read = kept_free (takes_sub id sub one.kept) (with_sub id sub one.kept) (acts.Subs id sub.pos) one reads.free;
     })
 
+-- a board that was not offered last goes to another lane, and nothing is gone
+gives_ahead : {afar : Afar} {above : List Record} {seen rest : List Sensed} {ga gb : Ghost} (desk : Desk) (read : List Sensed) (id to : ℕ) (body : Machine) (c : Scene)
+    → Reads afar above seen rest ga gb desk read body c → IsNotLast id body
+    → GoesAhead afar above rest ga gb c (machine_step desk read (Gives id to) body)
+gives_ahead desk read id to body c reads other =
+    let one : Machine = body_read desk read body in
+    let now : Scene = scene_read desk read body c in
+    step_ahead desk read (Gives id to) body c (record {
+      goes = goes_good (all_outlet (gives id to one).acts now) (all_intake (gives id to one).acts now)
+          (goes_to_lane id to (λ is. other (sym (read_last desk read body c) ∙ is)) reads.after);
+      read = kept_free (is_kept id one.kept) (without id one.kept) (acts.Gives id to) one reads.free;
+    })
+
+-- and one comes from there, which is not gone here
+gets_ahead : {afar : Afar} {above : List Record} {seen rest : List Sensed} {ga gb : Ghost} (desk : Desk) (read : List Sensed) (board : Record) (body : Machine) (c : Scene)
+    → Reads afar above seen rest ga gb desk read body c → body.intake.phase ≡ inn.Idle → AreHere afar.gone_below (c.boards ++ record { id = Some board.id } ∷ [])
+    → GoesAhead afar above rest ga gb c (machine_step desk read (Gets board) body)
+gets_ahead {afar = afar} desk read board body c reads idle here =
+    let one : Machine = body_read desk read body in
+    let now : Scene = scene_read desk read body c in
+    step_ahead desk read (Gets board) body c (record {
+      goes = goes_good (all_outlet (gets board one).acts now) (all_intake (gets board one).acts now)
+          (gets_good board (read_idle desk read body c idle) reads.after
+          (subst (λ (bs : List Board). AreHere afar.gone_below (bs ++ record { id = Some board.id } ∷ [])) (sym (read_lists desk read body c)) here));
+      read = record { read = reads.free.read };
+    })
+
 -- and where all is read
 
 pub insert_goes : {afar : Afar} {above : List Record} {ga gb : Ghost} (gone2 : ℕ → Bool) (desk : Desk) (unread : List Sensed) (id : ℕ) (barcode : Option (List ℕ)) (body : Machine) (c : Scene)
@@ -148,3 +175,11 @@ mark_goes desk unread id quality body c g plain = (mark_ahead desk unread id qua
 pub sub_goes : {afar : Afar} {above : List Record} {ga gb : Ghost} (desk : Desk) (unread : List Sensed) (id : ℕ) (sub : SubBoard) (body : Machine) (c : Scene)
     → Good afar above unread ga gb body c → (body.outlet.touched ≡ Some id → ⊥) → GoesBy afar above [] ga gb c (machine_step desk unread (Sub id sub) body)
 sub_goes desk unread id sub body c g plain = (sub_ahead desk unread id sub body c (reads_all desk unread body c g) plain).goes
+
+pub gives_goes : {afar : Afar} {above : List Record} {ga gb : Ghost} (desk : Desk) (unread : List Sensed) (id to : ℕ) (body : Machine) (c : Scene)
+    → Good afar above unread ga gb body c → IsNotLast id body → GoesBy afar above [] ga gb c (machine_step desk unread (Gives id to) body)
+gives_goes desk unread id to body c g other = (gives_ahead desk unread id to body c (reads_all desk unread body c g) other).goes
+
+pub gets_goes : {afar : Afar} {above : List Record} {ga gb : Ghost} (desk : Desk) (unread : List Sensed) (board : Record) (body : Machine) (c : Scene)
+    → Good afar above unread ga gb body c → body.intake.phase ≡ inn.Idle → AreHere afar.gone_below (c.boards ++ record { id = Some board.id } ∷ []) → GoesBy afar above [] ga gb c (machine_step desk unread (Gets board) body)
+gets_goes desk unread board body c g idle here = (gets_ahead desk unread board body c (reads_all desk unread body c g) idle here).goes

@@ -112,6 +112,8 @@ met (acts.Drive side on) c = driven side on c
 met (acts.Inserts id) c = record c { boards = c.boards ++ record { id = Some id } ∷ [] }
 met (acts.Removes id) c = record c { boards = without_board id c.boards }
 met (acts.Replaces old new) c = record c { boards = with_new_id old new c.boards }
+met (acts.Gives id to) c = record c { boards = without_board id c.boards }
+met (acts.Gets id) c = record c { boards = c.boards ++ record { id = Some id } ∷ [] }
 met _ c = c
 
 -- the acts in their order

@@ -17,7 +17,7 @@ ghost use Rattle.handover_in.specs.State.{may_connect};
 ghost use Rattle.handover_in.specs.declared.phase.Phase.TheVariants as inn;
 ghost use Rattle.node_core.specs.Boards.{is_kept, with_kept, without};
 ghost use Rattle.node_core.specs.Desk.{Desk};
-ghost use Rattle.node_core.specs.Event.{Accepted, Connect, Event, Insert, Mark, Nothing, Remove, Replace, Second, Sub};
+ghost use Rattle.node_core.specs.Event.{Accepted, Connect, Event, Gets, Gives, Insert, Mark, Nothing, Remove, Replace, Second, Sub};
 ghost use Rattle.node_core.specs.Halves.{OffersFront};
 ghost use Rattle.node_core.specs.Step.{machine_step};
 ghost use Rattle.node_core.specs.declared.act.Act.{Act};
@@ -26,7 +26,7 @@ ghost use Rattle.custody.specs.Pair.{Ghost};
 ghost use Rattle.custody.specs.Talks.{IsCall};
 ghost use Rattle.custody.specs.Words.{down_words, up_words};
 ghost use Rattle.machine_custody.specs.Ahead.{GoesAhead, GoesTo, IsFreeRead};
-ghost use Rattle.machine_custody.specs.ByHand.{AreHere, Grows, body_read};
+ghost use Rattle.machine_custody.specs.ByHand.{AreHere, Grows, IsNotLast, body_read};
 ghost use Rattle.machine_custody.specs.Flight.{IsPlain};
 ghost use Rattle.machine_custody.specs.Good.{Afar, Goes, GoesBy, Good};
 ghost use Rattle.machine_custody.specs.InTime.{IsMetInTime, IsReadEnough};
@@ -48,7 +48,9 @@ pub fn a_step_keeps_both_links()
 
 /// And so does a step in which a board is put in, taken out, replaced or marked by hand, or gets a
 /// circuit of a panel: a new board whose id is none on the floor, or one that is kept still when the events are read. The
-/// ids of boards that go are gone from then on.
+/// ids of boards that go are gone from then on. And so does one in which a board goes to another lane
+/// of the machine, which was not offered last before the step, and one in which a board comes from
+/// there whose id isn't gone by this machine: of them nothing is gone.
 pub fn a_change_by_hand_keeps_both_links()
     ensures insert { (afar : Afar) (above : List Record) (ga gb : Ghost) (gone : ℕ → Bool)
         (desk : Desk) (unread : List Sensed) (id : ℕ) (barcode : Option (List ℕ)) (body : Machine)
@@ -78,6 +80,15 @@ pub fn a_change_by_hand_keeps_both_links()
         (unread : List Sensed) (id : ℕ) (sub : SubBoard) (body : Machine) (c : Scene)
         → Good afar above unread ga gb body c → (body.outlet.touched ≡ Some id → ⊥)
         → GoesBy afar above [] ga gb c (machine_step desk unread (Sub id sub) body) }
+    ensures gives { (afar : Afar) (above : List Record) (ga gb : Ghost) (desk : Desk)
+        (unread : List Sensed) (id to : ℕ) (body : Machine) (c : Scene)
+        → Good afar above unread ga gb body c → IsNotLast id body
+        → GoesBy afar above [] ga gb c (machine_step desk unread (Gives id to) body) }
+    ensures gets { (afar : Afar) (above : List Record) (ga gb : Ghost) (desk : Desk)
+        (unread : List Sensed) (board : Record) (body : Machine) (c : Scene)
+        → Good afar above unread ga gb body c → body.intake.phase ≡ inn.Idle
+        → AreHere afar.gone_below (c.boards ++ record { id = Some board.id } ∷ [])
+        → GoesBy afar above [] ga gb c (machine_step desk unread (Gets board) body) }
 {}
 
 /// A board that changes lanes inside a machine: one that is kept and wasn't offered last goes out of

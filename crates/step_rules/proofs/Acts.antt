@@ -47,6 +47,8 @@ use Rattle.step_rules.specs.Causes.{
   ByHand,
   Cause,
   Tells,
+  hand_gets,
+  hand_gives,
   hand_inserts,
   hand_removes,
   hand_replaces,
@@ -170,6 +172,8 @@ by_hand : {desk : Desk} {event : Event} {body : Body} {kept : List Record} {act 
 by_hand P hand_inserts own = own
 by_hand P (hand_removes is) own = own
 by_hand P (hand_replaces is) own = own
+by_hand P (hand_gives is) own = own
+by_hand P hand_gets own = own
 by_hand P (hand_changes (changes_quality is)) own = own
 by_hand P (hand_changes (changes_circuits is)) own = own
 by_hand P (hand_changes (changes_front {id = id} front is)) own = own.1 id

@@ -89,6 +89,8 @@ use Rattle.node_core.specs.Event.{
   Event,
   Fault,
   Forecast,
+  Gets,
+  Gives,
   Insert,
   Level,
   Mark,
@@ -151,6 +153,8 @@ use Rattle.step_rules.specs.Causes.{
   by_second,
   by_shutdown,
   by_tick,
+  hand_gets,
+  hand_gives,
   hand_inserts,
   hand_removes,
   hand_replaces,
@@ -559,6 +563,8 @@ event_made desk (Sub id sub) body = kept_made (takes_sub id sub body.kept) (λ t
 event_made desk Forecast body = forecasts_made desk (slice_get body.kept 0) body refl
 event_made desk (Query barcode) body = made_act tells_query
 event_made desk (Supervised what) body = supervises_made desk what body
+event_made desk (Gives id to) body = kept_made (is_kept id body.kept) hand_gives
+event_made desk (Gets board) body = made_by_hand hand_gets
 
 -- ---- the announcements
 

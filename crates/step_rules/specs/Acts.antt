@@ -12,6 +12,8 @@ use Rattle.node_core.specs.Desk.{Desk}
 use Rattle.node_core.specs.Event.{
   Connect,
   Event,
+  Gets,
+  Gives,
   Insert,
   Level,
   Mark,
@@ -47,6 +49,8 @@ OfEvent P desk (Replace old new) = P (acts.Replaces old new)
 OfEvent P desk (Mark id quality) = P (acts.Marks id quality)
 OfEvent P desk (Sub id sub) = P (acts.Subs id sub.pos)
 OfEvent P desk (Supervised what) = P (supervision_act desk what)
+OfEvent P desk (Gives id to) = P (acts.Gives id to)
+OfEvent P desk (Gets board) = P (acts.Gets board.id)
 OfEvent P desk _ = Unit {0}
 
 abbrev pub OfCause : (Act → Type 0) → Desk → Cause → Type 0

@@ -60,6 +60,8 @@ use Rattle.node_core.specs.Event.{
   Event,
   Fault,
   Forecast,
+  Gets,
+  Gives,
   Insert,
   Level,
   Mark,
@@ -230,6 +232,11 @@ pub data ByHand (desk : Desk) : Event → Body → List Record → Act → Type 
   hand_replaces : {old new : ℕ} {body : Body} → is_kept old body.kept ≡ true
       → ByHand desk (Replace old new) body
       (with_instead old (plain_record new desk.name None) body.kept) (acts.Replaces old new)
+  -- a board goes to another lane of the machine, or comes from one
+  hand_gives : {id to : ℕ} {body : Body} → is_kept id body.kept ≡ true
+      → ByHand desk (Gives id to) body (without id body.kept) (acts.Gives id to)
+  hand_gets : {board : Record} {body : Body}
+      → ByHand desk (Gets board) body (body.kept ++ board ∷ []) (acts.Gets board.id)
   hand_changes : {event : Event} {body : Body} {id : ℕ} {change : Record → Record} {act : Act}
       → Changes desk event body id change act
       → ByHand desk event body (with_changed id change body.kept) act

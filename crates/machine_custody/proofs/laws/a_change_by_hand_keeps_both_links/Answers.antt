@@ -1,4 +1,4 @@
-use Rattle.machine_custody.proofs.Step.{insert_goes, mark_goes, remove_goes, replace_goes, sub_goes}
+use Rattle.machine_custody.proofs.Step.{gets_goes, gives_goes, insert_goes, mark_goes, remove_goes, replace_goes, sub_goes}
 use Rattle.machine_custody.proofs.laws.a_change_by_hand_keeps_both_links.Goals as goal
 
 pub returns-clause-insert : goal.returns-clause-insert
@@ -15,3 +15,9 @@ returns-clause-mark c = λ afar above ga gb desk unread id quality body scene go
 
 pub returns-clause-sub : goal.returns-clause-sub
 returns-clause-sub c = λ afar above ga gb desk unread id sub body scene good plain. sub_goes desk unread id sub body scene good plain
+
+pub returns-clause-gives : goal.returns-clause-gives
+returns-clause-gives c = λ afar above ga gb desk unread id to body scene good other. gives_goes desk unread id to body scene good other
+
+pub returns-clause-gets : goal.returns-clause-gets
+returns-clause-gets c = λ afar above ga gb desk unread board body scene good idle here. gets_goes desk unread board body scene good idle here
