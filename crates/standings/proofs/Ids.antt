@@ -6,7 +6,7 @@ use mathlib.Core.Bool.{or-true, or-false, or_assoc}
 use Rattle.standings.specs.declared.mark.Mark.{Mark}
 use Rattle.standings.specs.declared.entry.Entry.{Entry}
 use Rattle.standings.specs.declared.deed.Deed.{Deed}
-use Rattle.standings.specs.declared.deed.Deed.TheVariants.{Inserts, Removes, Replaces, Starts, Opens, Returns, Leaves, Loses, Settles, Drops}
+use Rattle.standings.specs.declared.deed.Deed.TheVariants.{Inserts, Comes, Removes, Replaces, Starts, Opens, Returns, Leaves, Loses, Settles, Drops}
 use Rattle.standings.specs.Marks.{has_id}
 use Rattle.standings.specs.Deeds.{added, made, taken}
 use Rattle.standings.specs.Ledger.{AreLegal, IsLegal, Ledger, are_different, are_new, empty_ledger, has_entry, ids_named, is_entry, is_found, is_legal, is_missing, is_same_entry, is_unseen, ledger_after, ledger_after_all, made_by_all, mark_of_id, marks_in, stand_once, without}
@@ -27,6 +27,7 @@ one_other id other unnamed = (or_parts (other == id) false unnamed).0
 -- a deed takes and adds marks of the ids that it names
 takes_named : (deed : Deed) (id : ℕ) → has_id id (ids_named deed) ≡ false → IsOther id (taken deed)
 takes_named (Inserts machine other) id unnamed = tt
+takes_named (Comes machine other) id unnamed = tt
 takes_named (Removes machine other) id unnamed = one_other id other unnamed
 takes_named (Replaces machine old new) id unnamed = (or_parts (old == id) (has_id id (new ∷ [])) unnamed).0
 takes_named (Starts gap other) id unnamed = tt
@@ -39,6 +40,7 @@ takes_named (Drops gap other) id unnamed = one_other id other unnamed
 
 adds_named : (deed : Deed) (id : ℕ) → has_id id (ids_named deed) ≡ false → IsOther id (added deed)
 adds_named (Inserts machine other) id unnamed = one_other id other unnamed
+adds_named (Comes machine other) id unnamed = one_other id other unnamed
 adds_named (Removes machine other) id unnamed = tt
 adds_named (Replaces machine old new) id unnamed = one_other id new (or_parts (old == id) (has_id id (new ∷ [])) unnamed).1
 adds_named (Starts gap other) id unnamed = one_other id other unnamed
@@ -128,6 +130,7 @@ marks_are_seen deeds = seen_after_all empty_ledger deeds (λ entry stands. absur
 -- the id that a deed makes is named by it
 made_named : (deed : Deed) (id : ℕ) → made deed ≡ Some id → has_id id (ids_named deed) ≡ true
 made_named (Inserts machine other) id is = rw (eq-eqb other id (same_Some other id is)) refl
+made_named (Comes machine other) id is = absurd (none-some id is)
 made_named (Removes machine other) id is = absurd (none-some id is)
 made_named (Replaces machine old new) id is = ap (λ (b : Bool). (old == id) || (b || false)) (eq-eqb new id (same_Some new id is)) ∙ or-true (old == id)
 made_named (Starts gap other) id is = absurd (none-some id is)

@@ -3,7 +3,7 @@ use Rattle.std.specs.Prelude.{ℕ, ◌+◌, Option, None, Some}
 use Rattle.standings.specs.declared.mark.Mark.TheVariants.{Kept, Outlet, Intake}
 use Rattle.standings.specs.declared.entry.Entry.{Entry}
 use Rattle.standings.specs.declared.deed.Deed.{Deed}
-use Rattle.standings.specs.declared.deed.Deed.TheVariants.{Inserts, Removes, Replaces, Starts, Opens, Returns, Leaves, Loses, Settles, Drops}
+use Rattle.standings.specs.declared.deed.Deed.TheVariants.{Inserts, Comes, Removes, Replaces, Starts, Opens, Returns, Leaves, Loses, Settles, Drops}
 
 -- machine m keeps the board
 abbrev pub kept_at : ℕ → ℕ → Option Entry
@@ -20,6 +20,7 @@ at_intake gap id = Some (record { id = id; mark = Intake (gap + 1) })
 -- the mark that a deed takes
 abbrev pub taken : Deed → Option Entry
 taken (Inserts machine id) = None
+taken (Comes machine id) = None
 taken (Removes machine id) = kept_at machine id
 taken (Replaces machine old new) = kept_at machine old
 taken (Starts gap id) = None
@@ -33,6 +34,7 @@ taken (Drops gap id) = at_intake gap id
 -- the mark that it adds
 abbrev pub added : Deed → Option Entry
 added (Inserts machine id) = kept_at machine id
+added (Comes machine id) = kept_at machine id
 added (Removes machine id) = None
 added (Replaces machine old new) = kept_at machine new
 added (Starts gap id) = at_intake gap id
@@ -46,6 +48,7 @@ added (Drops gap id) = None
 -- the id that it makes: it is of a board that was not there before
 abbrev pub made : Deed → Option ℕ
 made (Inserts machine id) = Some id
+made (Comes machine id) = None
 made (Removes machine id) = None
 made (Replaces machine old new) = Some new
 made (Starts gap id) = None
@@ -59,6 +62,7 @@ made (Drops gap id) = None
 -- the id that it names, of a replacement the new one
 abbrev pub named : Deed → ℕ
 named (Inserts machine id) = id
+named (Comes machine id) = id
 named (Removes machine id) = id
 named (Replaces machine old new) = new
 named (Starts gap id) = id
@@ -72,6 +76,7 @@ named (Drops gap id) = id
 -- the old id that a replacement names beside the new one
 abbrev pub named_beside : Deed → Option ℕ
 named_beside (Inserts machine id) = None
+named_beside (Comes machine id) = None
 named_beside (Removes machine id) = None
 named_beside (Replaces machine old new) = Some old
 named_beside (Starts gap id) = None
@@ -85,6 +90,7 @@ named_beside (Drops gap id) = None
 -- the number of the gap or the machine at which it is done
 abbrev pub gap_of : Deed → ℕ
 gap_of (Inserts machine id) = machine
+gap_of (Comes machine id) = machine
 gap_of (Removes machine id) = machine
 gap_of (Replaces machine old new) = machine
 gap_of (Starts gap id) = gap

@@ -13,7 +13,12 @@ pub enum Deed {
         machine: u32,
         id: BoardId,
     },
-    /// A board was taken from the machine by hand.
+    /// A board came from another lane of the machine. No report of one lane tells it.
+    Comes {
+        machine: u32,
+        id: BoardId,
+    },
+    /// A board was taken from the machine by hand, or went to another lane of it.
     Removes {
         machine: u32,
         id: BoardId,
@@ -68,7 +73,7 @@ impl Deed {
         ensures { result ≡ taken self }
     {
         let (id, mark) = match self {
-            Deed::Inserts { .. } | Deed::Starts { .. } => return None,
+            Deed::Inserts { .. } | Deed::Comes { .. } | Deed::Starts { .. } => return None,
             Deed::Removes { machine, id } => (id, Mark::Kept(machine)),
             Deed::Replaces { machine, old, .. } => (old, Mark::Kept(machine)),
             Deed::Opens { gap, id } => (id, Mark::Kept(gap)),
@@ -90,6 +95,7 @@ impl Deed {
             Deed::Removes { .. } | Deed::Leaves { .. } => return None,
             Deed::Loses { .. } | Deed::Drops { .. } => return None,
             Deed::Inserts { machine, id } => (id, Mark::Kept(machine)),
+            Deed::Comes { machine, id } => (id, Mark::Kept(machine)),
             Deed::Replaces { machine, new, .. } => (new, Mark::Kept(machine)),
             Deed::Starts { gap, id } => (id, Mark::Intake(gap + 1)),
             Deed::Opens { gap, id } => (id, Mark::Outlet(gap)),
@@ -116,6 +122,7 @@ impl Deed {
     {
         match self {
             Deed::Inserts { id, .. } | Deed::Removes { id, .. } => id,
+            Deed::Comes { id, .. } => id,
             Deed::Replaces { new, .. } => new,
             Deed::Starts { id, .. } | Deed::Opens { id, .. } => id,
             Deed::Returns { id, .. } | Deed::Leaves { id, .. } => id,
