@@ -105,6 +105,14 @@ fn change(teller: &Teller, act: &Act, world: &mut World) -> Result<Option<u32>, 
             world.change(machine, *old, *new);
             Ok(None)
         }
+        Act::Gives { id, .. } => {
+            world.take_off(machine, *id);
+            Ok(None)
+        }
+        Act::Gets { id } => {
+            world.lay(machine, *id)?;
+            Ok(None)
+        }
         Act::Deed(deed) => {
             count(*deed, world)?;
             Ok(None)

@@ -9,7 +9,6 @@ use Rattle.board_record.specs.declared.sensed.Sensed.{Sensed}
 use Rattle.hermes_horizontal.specs.declared.message.Message.{Message}
 use Rattle.line_link.specs.declared.link.Sent.{Sent}
 use Rattle.line_link.specs.declared.link.Sent.TheVariants as sent
-use Rattle.line_script.specs.declared.line.ScriptLine.{ScriptLine}
 use Rattle.node_core.specs.declared.act.Act.{Act}
 use Rattle.node_core.specs.declared.act.Act.TheVariants as acts
 use Rattle.node_core.specs.declared.input.Input.{Input}
@@ -39,7 +38,7 @@ use Rattle.node_core.proofs.Signalling.{signals_pass}
 use Rattle.line_step.proofs.Ascending.{ascending_same}
 use Rattle.line_step.proofs.Unnamed.{SameAt, apart_ids, apart_is, or_false, step_spares}
 use Rattle.line_report.specs.declared.happening.Happening.{Happening}
-use Rattle.line_step.proofs.Requests.{Request, request_of}
+use Rattle.line_step.specs.Requests.{Request}
 use Rattle.line_step.proofs.Turns.{LineTurns, line_turns}
 use Rattle.line_step.proofs.Turns as turns
 
@@ -143,14 +142,14 @@ flows_stays id number machine side count before after told f = machine_stays id 
 -- the marks of an id change only where a line's acts name it
 turn_stays : (id number : ℕ) (request : Request) (before after : LineState) (told : List Happening) → LineTurns number before after told request → Stays id before after told
 turn_stays id number request before after told (turns.stays _ same none) named = ap (λ (nodes : List NodeState). marks_of (map owned_by nodes) id) (sym same)
-turn_stays id number request before after told (turns.adds is_bridge capacity used may b) named =
-    becomes_stays id before (one_more is_bridge capacity used before) after _ told (sym (marks_more 1 id before.machines _ refl)) b named
+turn_stays id number request before after told (turns.adds lane is_bridge capacity used may b) named =
+    becomes_stays id before (one_more lane is_bridge capacity used before) after _ told (sym (marks_more 1 id before.machines _ refl)) b named
 turn_stays id number request before after told (turns.steps machine input given may did) named = machine_stays id number machine input before after told did named
 turn_stays id number request before after told (turns.connects machine may did) named = connects_stays id number machine before after told did named
 turn_stays id number request before after told (turns.flows machine side count may did) named = flows_stays id number machine side count before after told did named
 
-pub line_stays : (id number : ℕ) (line : ScriptLine) (before after : LineState) (told : List Happening) → LineDoes number line before after told → Stays id before after told
-line_stays id number line before after told does = turn_stays id number (request_of line) before after told (line_turns number line before after told does)
+pub line_stays : (id number : ℕ) (request : Request) (before after : LineState) (told : List Happening) → LineDoes number request before after told → Stays id before after told
+line_stays id number request before after told does = turn_stays id number request before after told (line_turns number request before after told does)
 
 -- ---- standings
 
@@ -194,8 +193,8 @@ unmarked_untold before after id none =
     stays_untold before after id (unmarked 1 id (owned before) two.0 ∙ sym (unmarked 1 id (owned after) two.1))
 
 -- the standings that changed are told of the ids that a line's acts name
-pub standings_named : (number : ℕ) (line : ScriptLine) (before after : LineState) (told : List Happening) → LineDoes number line before after told
+pub standings_named : (number : ℕ) (request : Request) (before after : LineState) (told : List Happening) → LineDoes number request before after told
     → standings_told before after ≡ flat_map (told_between before after) (ascending (ids_named told))
-standings_named number line before after told d =
+standings_named number request before after told d =
     ascending_same (told_between before after) (ids_marked before ++ ids_marked after) (ids_named told) (unmarked_untold before after)
-    (λ id none. stays_untold before after id (line_stays id number line before after told d none))
+    (λ id none. stays_untold before after id (line_stays id number request before after told d none))

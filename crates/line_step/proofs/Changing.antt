@@ -190,6 +190,8 @@ act_same_but second machine (acts.Deed deed) world = but_counted machine deed wo
 act_same_but second machine (acts.Inserts id) world = but_place machine _ world
 act_same_but second machine (acts.Removes id) world = but_place machine _ world
 act_same_but second machine (acts.Replaces old new) world = but_place machine _ world
+act_same_but second machine (acts.Gives id to) world = but_place machine _ world
+act_same_but second machine (acts.Gets id) world = but_place machine _ world
 act_same_but second machine act world = but_nothing machine world
 
 pub acts_same_but : (second : Bool) (machine : ℕ) (told : List Act) (world : WorldParts) → SameBut machine world (acts_did second machine told world).world
@@ -306,20 +308,20 @@ more_node (n ∷ nodes) new (suc place) apart =
     let fewer : place ≢ length nodes = omega arith in
     more_node nodes new place fewer
 
-more_node_at : (is_bridge : Bool) (capacity used : ℕ) (s : LineState) (k : ℕ) → k ≢ length s.machines + 1 → node_at (one_more is_bridge capacity used s) k ≡ node_at s k
-more_node_at is_bridge capacity used s zero apart = refl
-more_node_at is_bridge capacity used s (suc place) apart =
+more_node_at : (lane : ℕ) (is_bridge : Bool) (capacity used : ℕ) (s : LineState) (k : ℕ) → k ≢ length s.machines + 1 → node_at (one_more lane is_bridge capacity used s) k ≡ node_at s k
+more_node_at lane is_bridge capacity used s zero apart = refl
+more_node_at lane is_bridge capacity used s (suc place) apart =
     let places : place ≢ length s.machines = omega arith in
-    more_node s.machines (new_node (profile_of is_bridge (length s.machines + 1) capacity used)) place places
+    more_node s.machines (new_node (profile_of lane is_bridge (length s.machines + 1) capacity used)) place places
 
 pub more_gaps : (machines : List AtMachine) (gaps : List AtGap) (gap : ℕ) → at_number (gaps_before machines gaps) gap free_gap ≡ at_number gaps gap free_gap
 more_gaps [] gaps gap = refl
 more_gaps (m ∷ machines) gaps gap = number_more gaps gap free_gap
 
-pub more_changes : (is_bridge : Bool) (capacity used : ℕ) (s : LineState) → ChangesMachine (length s.machines + 1) s (one_more is_bridge capacity used s)
-more_changes is_bridge capacity used s =
-    let now = one_more is_bridge capacity used s in
+pub more_changes : (lane : ℕ) (is_bridge : Bool) (capacity used : ℕ) (s : LineState) → ChangesMachine (length s.machines + 1) s (one_more lane is_bridge capacity used s)
+more_changes lane is_bridge capacity used s =
+    let now = one_more lane is_bridge capacity used s in
     record {
-      machines = λ k apart. stand_same s now k (more_node_at is_bridge capacity used s k apart) (number_more s.world.floor.machines k empty_machine);
-      links = λ k here above. between_same s now k (more_at is_bridge capacity used s k) (more_gaps s.world.floor.machines s.world.floor.gaps k);
+      machines = λ k apart. stand_same s now k (more_node_at lane is_bridge capacity used s k apart) (number_more s.world.floor.machines k empty_machine);
+      links = λ k here above. between_same s now k (more_at lane is_bridge capacity used s k) (more_gaps s.world.floor.machines s.world.floor.gaps k);
     }

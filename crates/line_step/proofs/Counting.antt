@@ -77,6 +77,8 @@ act_same_world second machine (acts.Deed deed) world = counted_same deed world
 act_same_world second machine (acts.Inserts id) world = place_same_world machine _ world
 act_same_world second machine (acts.Removes id) world = place_same_world machine _ world
 act_same_world second machine (acts.Replaces old new) world = place_same_world machine _ world
+act_same_world second machine (acts.Gives id to) world = place_same_world machine _ world
+act_same_world second machine (acts.Gets id) world = place_same_world machine _ world
 act_same_world second machine act world = same_world world
 
 pub acts_same_world : (second : Bool) (machine : ℕ) (told : List Act) (world : WorldParts) → SameWorld world (acts_did second machine told world).world

@@ -1,10 +1,9 @@
--- THE EFFECTS OF A LINE: what a line of the script does is one of ten things, with what its reasons gave. Each law over
+-- THE EFFECTS OF A LINE: what is done of a request is one of ten things, with what its reasons gave. Each law over
 -- lines goes over these.
 use Rattle.std.proofs.Common.{◌≡◌, ℕ, Bool, true, false, List, ◌∷◌, Option, Result, Ok, Err, refl, sym, subst, []}
 use Rattle.line_base.specs.declared.states.Side.{Side}
 use Rattle.board_record.specs.declared.sensed.Sensed.{Sensed}
 use Rattle.line_link.specs.Link.{spoil_sent}
-use Rattle.line_script.specs.declared.line.ScriptLine.{ScriptLine}
 use Rattle.line_world.specs.FloorPlan.{FloorPlan}
 use Rattle.line_world.specs.Moves.{floor_move}
 use Rattle.line_world.specs.declared.moves.Move.{Move}
@@ -20,15 +19,16 @@ use Rattle.line_step.specs.Reasons.{May, may_add, may_connect, may_cut, may_do, 
 use Rattle.line_step.specs.Shown.{shown}
 use Rattle.line_step.specs.Lines.{Becomes, Connects, Flows, LineDoes, Moves, Unless, cut_in, lied, move_told, moved, spoil_told, spoiled, unseen, unvouched_told}
 use Rattle.line_step.proofs.Remarks.{AreRemarks, cut_remarks, shown_remarks}
-use Rattle.line_step.proofs.Requests.{GivesInput, IsGiven, Request, RequestDoes, added_told, line_gives, line_requests, may_get, request_of}
-use Rattle.line_step.proofs.Requests as requests
+use Rattle.line_step.proofs.Giving.{IsGiven, may_given}
+use Rattle.line_step.specs.Requests.{Request, added_told, may_get}
+use Rattle.line_step.specs.Requests as requests
 
 pub data Effect (number : ℕ) (before after : LineState) (told : List Happening) : Request → Type 0 where
   -- nothing changes: a reason stands against it, or it was not asked for
   rests : (request : Request) (what : List Happening) → AreRemarks what → Becomes before what after told → Effect number before after told request
-  adds : (is_bridge : Bool) (capacity used : ℕ) → may_add before ≡ may_do
-      → Becomes (one_more is_bridge capacity used before) (added_told is_bridge capacity before) after told
-      → Effect number before after told (requests.adds is_bridge capacity used)
+  adds : (lane : ℕ) (is_bridge : Bool) (capacity used : ℕ) → may_add before ≡ may_do
+      → Becomes (one_more lane is_bridge capacity used before) (added_told is_bridge capacity before) after told
+      → Effect number before after told (requests.adds lane is_bridge capacity used)
   steps : (machine : ℕ) (input : Input) → IsGiven input → may_get machine input before ≡ may_do → MachineSteps number machine input before after told
       → Effect number before after told (requests.gives machine input)
   connects : (machine : ℕ) → may_connect machine before ≡ may_do → Connects number machine before after told
@@ -55,7 +55,7 @@ pub becomes_by : (P : LineState → List Happening → Type 0) {next after : Lin
 becomes_by P {next} {after} {what} {told} b is =
     subst (λ (s : LineState). P s told) (sym b.after_is) (subst (λ (ts : List Happening). P next ts) (sym b.told_is) is)
 
--- ---- EACH LINE
+-- ---- EACH REQUEST
 
 unless_effect : (number : ℕ) (request : Request) (may : May) (before after : LineState) (told : List Happening) (Done : Type 0) → Unless may before after told Done → (may ≡ may_do → Done → Effect number before after told request) → Effect number before after told request
 unless_effect number request (Ok _) before after told Done does then = then refl does
@@ -65,22 +65,19 @@ move_effect : (number gap : ℕ) (step : Move) (before after : LineState) (told 
 move_effect number gap step before after told (Ok floor) is does = moves gap step floor is does
 move_effect number gap step before after told (Err why) is does = rests (requests.moves_on gap step) (happenings.No (reasons.Move why) ∷ []) (tt, tt) does
 
-effect_of : (number : ℕ) (request : Request) (before after : LineState) (told : List Happening) → GivesInput request → RequestDoes number request before after told → Effect number before after told request
-effect_of number requests.nothing before after told given does = rests requests.nothing [] tt does
-effect_of number requests.shows before after told given does = rests requests.shows (shown before) (shown_remarks before) does
-effect_of number (requests.adds is_bridge capacity used) before after told given does = unless_effect number _ _ before after told _ does (λ may done. adds is_bridge capacity used may done)
-effect_of number (requests.gives machine input) before after told given does = unless_effect number _ _ before after told _ does (λ may done. steps machine input given may done)
-effect_of number (requests.connects machine) before after told given does = unless_effect number _ _ before after told _ does (λ may done. connects machine may done)
-effect_of number (requests.flows machine side count) before after told given does = unless_effect number _ _ before after told _ does (λ may done. flows machine side count may done)
-effect_of number (requests.cuts gap) before after told given does = unless_effect number _ _ before after told _ does (λ may done. cuts gap may done)
-effect_of number (requests.stops machine) before after told given does = unless_effect number _ _ before after told _ does (λ may done. rests (requests.stops machine) (happenings.Stop machine ∷ []) (tt, tt) done)
-effect_of number (requests.spoils machine side) before after told given does = unless_effect number _ _ before after told _ does (λ may done. spoils machine side may done)
-effect_of number (requests.moves_on gap step) before after told given does = move_effect number gap step before after told (floor_move gap step before.world.floor) refl does
-effect_of number (requests.lies machine sensed) before after told given does = unless_effect number _ _ before after told _ does (λ may done. lies machine sensed may done)
-effect_of number (requests.unsees machine side) before after told given does = unless_effect number _ _ before after told _ does (λ may done. unsees machine side may done)
-
-pub line_effect : (number : ℕ) (line : ScriptLine) (before after : LineState) (told : List Happening) → LineDoes number line before after told → Effect number before after told (request_of line)
-line_effect number line before after told does = effect_of number (request_of line) before after told (line_gives line) (line_requests number line before after told does)
+pub line_effect : (number : ℕ) (request : Request) (before after : LineState) (told : List Happening) → LineDoes number request before after told → Effect number before after told request
+line_effect number requests.nothing before after told does = rests requests.nothing [] tt does
+line_effect number requests.shows before after told does = rests requests.shows (shown before) (shown_remarks before) does
+line_effect number (requests.adds lane is_bridge capacity used) before after told does = unless_effect number _ _ before after told _ does (λ may done. adds lane is_bridge capacity used may done)
+line_effect number (requests.gives machine input) before after told does = unless_effect number _ _ before after told _ does (λ may done. steps machine input (may_given machine input before may) may done)
+line_effect number (requests.connects machine) before after told does = unless_effect number _ _ before after told _ does (λ may done. connects machine may done)
+line_effect number (requests.flows machine side count) before after told does = unless_effect number _ _ before after told _ does (λ may done. flows machine side count may done)
+line_effect number (requests.cuts gap) before after told does = unless_effect number _ _ before after told _ does (λ may done. cuts gap may done)
+line_effect number (requests.stops machine) before after told does = unless_effect number _ _ before after told _ does (λ may done. rests (requests.stops machine) (happenings.Stop machine ∷ []) (tt, tt) done)
+line_effect number (requests.spoils machine side) before after told does = unless_effect number _ _ before after told _ does (λ may done. spoils machine side may done)
+line_effect number (requests.moves_on gap step) before after told does = move_effect number gap step before after told (floor_move gap step before.world.floor) refl does
+line_effect number (requests.lies machine sensed) before after told does = unless_effect number _ _ before after told _ does (λ may done. lies machine sensed may done)
+line_effect number (requests.unsees machine side) before after told does = unless_effect number _ _ before after told _ does (λ may done. unsees machine side may done)
 
 -- ---- what is told of it
 

@@ -9,10 +9,10 @@ use Rattle.line_step.proofs.Numbers.{floor_stays}
 use Rattle.line_base.specs.declared.states.Side.{Side}
 use Rattle.line_base.specs.declared.states.Side.TheVariants.{Entry, Exit}
 use Rattle.board_record.specs.Record.{plain_record}
+use Rattle.board_record.specs.declared.record.Record.{Record}
 use Rattle.board_record.specs.declared.sensed.Sensed.{Sensed}
 use Rattle.board_record.specs.declared.maker.IdsUsedUp.{IdsUsedUp}
 use Rattle.board_record.specs.Maker.{Maker, after_next, made_id, next_id}
-use Rattle.line_script.specs.declared.line.ScriptLine.{ScriptLine}
 use Rattle.line_world.specs.declared.board.Board.{Board}
 use Rattle.line_world.specs.declared.gap.AtGap.{AtGap}
 use Rattle.line_world.specs.declared.moves.Move.{Move}
@@ -52,7 +52,7 @@ use Rattle.line_step.specs.Steps.{MachineSteps, is_second, moment_of, read_by, u
 use Rattle.line_step.specs.Reasons.{if_there, is_here, may_do, is_bare, no_if}
 use Rattle.line_step.specs.Shown.{standings_told}
 use Rattle.line_step.specs.Lines.{Connects, Flows, LineSteps, arrived, connecting, cut_in, lied, met, moved, spoil_told, spoiled, unseen, unseen_on, unvouched_told}
-use Rattle.line_step.specs.Tracks.{IsBeside, TrackLine, TrackSteps, other_line, own_line}
+use Rattle.line_step.specs.Tracks.{ComesFromElsewhere, IsBeside, IsFromElsewhere, TrackLine, TrackSteps, other_line, own_line}
 use Rattle.line_step.specs.Runs.{Point, IsRun}
 use Rattle.node_core.specs.Signals.{signalled}
 use Rattle.node_core.specs.Step.{plain_step}
@@ -71,13 +71,15 @@ use Rattle.line_step.specs.FloorIds.{AllChange, ChangesBoards, IdsStay, IsFresh,
 use Rattle.line_step.proofs.Hands.{AreQuiet, IsQuiet, announces-quiet, hands_with_tells, met-quiet, quiet-join, read-quiet, signals-quiet, tells_behind-quiet}
 use Rattle.step_rules.specs.Acts.{OfEvent}
 use Rattle.line_step.proofs.WithTells.{tells_append}
-use Rattle.line_step.proofs.Makers.{AreNumbered, IsOld, numbered-at, numbered-last, numbered-set, old-apart, old-last, old-new, old-set}
+use Rattle.line_step.specs.Made.{IsOld}
+use Rattle.line_step.proofs.Makers.{AreNumbered, numbered-at, numbered-last, numbered-set, old-apart, old-last, old-new, old-set}
 use Rattle.line_step.proofs.OnFloor.{Handles, IsPlain, IsStill, LiesThere, SameBoards, acts-still, all-join, as_many_gaps, changes-changes, handled-join, handles, lays-gains, lies-there_by, made-join, quiet-acts, read-list, same-list, still-join, still-none, takes_off-loses, board-gains, front-loses}
 use Rattle.line_step.proofs.Remarks.{IsRemark, Passes, all_pass, standings_remarks, unvouched_remarks}
-use Rattle.line_step.proofs.Requests.{Request, added_told, may_get, request_of}
+use Rattle.line_step.specs.Requests.{Request, added_told, may_get}
+use Rattle.line_step.specs.Requests as requests
 use Rattle.line_step.proofs.Effects.{Effect, added_remarks, becomes_by, line_effect, spoil_remarks}
 use Rattle.line_step.proofs.Beside.{beside-length, beside-numbered, beside-old}
-use Rattle.line_step.proofs.Getting.{removes_here, replaces_here}
+use Rattle.line_step.proofs.Getting.{gives_can, removes_here, replaces_here}
 use Rattle.line_step.proofs.Effects as effects
 
 -- ---- lists
@@ -201,11 +203,11 @@ boards-more (m ∷ ms) gaps whole = along_more (m ∷ ms) gaps (omega (arith, wh
 one-still : (told : Happening) → ((boards : List Board) → ChangesBoards told boards boards) → made_by (told ∷ []) ≡ [] → handled_by (told ∷ []) ≡ [] → IsStill (told ∷ [])
 one-still told change made handled = record { change = λ boards. (boards, change boards, refl); made = made; handled = handled }
 
-more-goes : (is_bridge : Bool) (capacity used : ℕ) (s : LineState) (told : List Happening) → Holds s → IsStill told → Goes s (one_more is_bridge capacity used s) told
-more-goes is_bridge capacity used s told h still =
-    let node = new_node (profile_of is_bridge (length s.machines + 1) capacity used) in
+more-goes : (lane : ℕ) (is_bridge : Bool) (capacity used : ℕ) (s : LineState) (told : List Happening) → Holds s → IsStill told → Goes s (one_more lane is_bridge capacity used s) told
+more-goes lane is_bridge capacity used s told h still =
+    let node = new_node (profile_of lane is_bridge (length s.machines + 1) capacity used) in
     let floor = s.world.floor in
-    still-goes s (one_more is_bridge capacity used s) told h
+    still-goes s (one_more lane is_bridge capacity used s) told h
     (record { own = λ own. numbered-last 1 s.machines node own (record { machine = omega arith }); olds = λ id old. old-last 1 s.machines node id old })
     (simp length-append (ap (λ n. n + 1) h.many))
     (gaps-more floor.machines floor.gaps h.whole)
@@ -467,11 +469,14 @@ quiet-goes number machine input before after told steps h quiet =
     finished number machine input before after told steps
     (still-goes before end (acts_did second machine steps.acts world).told h (step-follows before machine steps.node steps.next at h.own grown) (reaches.many ∙ sym (length-set before.machines (machine - 1) steps.next)) reaches.whole reaches.boards (acts-still second machine steps.acts world quiet))
 
--- an input that is not of the hands that put boards in, take them out or change them
+-- an input that is not of the hands that put boards in, take them out or change them, or that move
+-- them between lanes
 abbrev pub IsHandless : Input → Type 0
 IsHandless (inputs.Insert barcode) = ⊥
 IsHandless (inputs.Remove id) = ⊥
 IsHandless (inputs.Replace id) = ⊥
+IsHandless (inputs.Gives id to) = ⊥
+IsHandless (inputs.Gets board) = ⊥
 IsHandless _ = Unit {0}
 
 pub handless-event : (desk : Desk) (maker : Maker) (input : Input) (words : List Word)
@@ -479,6 +484,8 @@ pub handless-event : (desk : Desk) (maker : Maker) (input : Input) (words : List
 handless-event desk maker (inputs.Insert barcode) words handless = absurd handless
 handless-event desk maker (inputs.Remove id) words handless = absurd handless
 handless-event desk maker (inputs.Replace id) words handless = absurd handless
+handless-event desk maker (inputs.Gives id to) words handless = absurd handless
+handless-event desk maker (inputs.Gets board) words handless = absurd handless
 handless-event desk maker (inputs.Level line on) words handless = (tt, λ id. tt)
 handless-event desk maker _ words handless = tt
 
@@ -689,6 +696,91 @@ remove-goes true number machine id before after told steps is here h =
     hand-goes number machine input (acts.Removes id) before after told steps h parts (λ world. refl)
     (λ world reaches listed. removes-handled before machine id steps.node nodes world.floor h at follows reaches (lies-on before machine id world.floor here listed))
 
+-- where the hand does nothing
+quiet-hand : (number machine : ℕ) (input : Input) (before after : LineState) (told : List Happening) (steps : MachineSteps number machine input before after told) → hand_of number machine input before after told steps ≡ [] → Holds before → Goes before after told
+quiet-hand number machine input before after told steps none h =
+    let hand = hand_of number machine input before after told steps in
+    let P : List Act → Type 0 = λ list. AreQuiet list in
+    quiet-goes number machine input before after told steps h
+    (acts-quiet number machine input before after told steps (subst P (sym none) tt))
+
+-- ---- a board goes to another lane, as one that is taken out
+
+gives-handled : (s : LineState) (machine id to : ℕ) (nodes : List NodeState) (floor : FloorPlan)
+    → Handled s nodes (acts.Removes id) machine floor (takes_off machine id floor)
+    → Handled s nodes (acts.Gives id to) machine floor (takes_off machine id floor)
+gives-handled s machine id to nodes floor out = record {
+  many = out.many;
+  gaps = out.gaps;
+  change = out.change;
+  all = out.all;
+  differ = out.differ;
+  fresh = tt;
+  handled = out.handled;
+}
+
+gives-goes : (kept : Bool) (number machine id to : ℕ) (before after : LineState) (told : List Happening) (steps : MachineSteps number machine (inputs.Gives id to) before after told) → is_kept id (body_read number machine (inputs.Gives id to) before after told steps).kept ≡ kept → is_here machine id before.world ≡ true → Holds before → Goes before after told
+gives-goes kept number machine id to before after told steps is here h =
+    let input = inputs.Gives id to in
+    let act = acts.Gives id to in
+    let body = body_read number machine input before after told steps in
+    let f : Bool → List Act = λ test. (if_kept test (with_kept (without id body.kept) body) act body).acts in
+    by kept (ap f is) where
+      by : (test : Bool)
+          → hand_of number machine (inputs.Gives id to) before after told steps
+          ≡ (if_kept test (with_kept (without id (body_read number machine (inputs.Gives id to) before after told steps).kept) (body_read number machine (inputs.Gives id to) before after told steps)) (acts.Gives id to) (body_read number machine (inputs.Gives id to) before after told steps)).acts
+          → Goes before after told
+      by false none = quiet-hand number machine (inputs.Gives id to) before after told steps none h
+      by true one =
+          let at = at-of before machine steps.node steps.there in
+          let nodes = slice_set before.machines (machine - 1) steps.next in
+          let follows = step-follows before machine steps.node steps.next at h.own (grown-of number machine (inputs.Gives id to) before after told steps) in
+          let act = acts.Gives id to in
+          hand-goes number machine (inputs.Gives id to) act before after told steps h
+          (acts-one number machine (inputs.Gives id to) before after told steps act one) (λ world. refl)
+          (λ world reaches listed. gives-handled before machine id to nodes world.floor
+          (removes-handled before machine id steps.node nodes world.floor h at follows reaches (lies-on before machine id world.floor here listed)))
+
+-- ---- a board comes from another lane, as one that is put in, with an id that was made before
+
+pub absent-none : (id : ℕ) (boards : List Board) → AllByRecursion (λ (board : Board). has_id id board ≡ false) boards → length (filter (has_id id) boards) ≡ 0
+absent-none id [] absent = refl
+absent-none id (board ∷ boards) absent = rw absent.0 (absent-none id boards absent.1)
+
+absent-there : (s : LineState) (floor : FloorPlan) (id : ℕ) → Reaches s floor → IsFromElsewhere id s → HasFreshId floor (record { id = Some id })
+absent-there s floor id reaches from other has =
+    let Lacks : ℕ → Type 0 = λ own. AllByRecursion (λ (board : Board). has_id own board ≡ false) (boards_on floor) in
+    let lacks : Lacks id = each-along (λ (board : Board). has_id id board ≡ false) (boards_of s) (boards_on floor) reaches.boards from.absent in
+    nowhere_of other floor (absent-none other (boards_on floor) (subst Lacks (eqb-true id other has) lacks))
+
+gets-handled : (s : LineState) (machine id : ℕ) (node : NodeState) (nodes : List NodeState) (floor : FloorPlan) → Holds s → IsAt s machine node → Follows s.machines nodes → IsFromElsewhere id s → Reaches s floor → Handled s nodes (acts.Gets id) machine floor (lays machine id floor)
+gets-handled s machine id node nodes floor h at follows from reaches =
+    let counted : 1 ≤ machine = omega (arith, at.is) in
+    let gain = lays-gains floor machine id counted (at-within s machine node floor at reaches) in
+    let now : AtMachine = record (machine_at floor machine) { boards = (machine_at floor machine).boards ++ record { id = Some id } ∷ [] } in
+    let board : Board = record { id = Some id } in
+    let made = follows.olds id from.made in
+    record {
+      many = as_many_machines floor machine now;
+      gaps = ap length (as_many_gaps floor machine now);
+      change = gain;
+      all = each-gained (IsOldBoard nodes) (boards_on floor) (boards_on (lays machine id floor)) board gain (own-board nodes id made) (reached-old s floor nodes h reaches follows);
+      differ = gains_differ floor (lays machine id floor) board gain (absent-there s floor id reaches from) (same_differ s.world.floor floor reaches.boards h.differ);
+      fresh = tt;
+      handled = (made, tt);
+    }
+
+gets-goes : (number machine : ℕ) (board : Record) (before after : LineState) (told : List Happening) → MachineSteps number machine (inputs.Gets board) before after told → IsFromElsewhere board.id before → Holds before → Goes before after told
+gets-goes number machine board before after told steps from h =
+    let input = inputs.Gets board in
+    let act = acts.Gets board.id in
+    let at = at-of before machine steps.node steps.there in
+    let nodes = slice_set before.machines (machine - 1) steps.next in
+    let follows = step-follows before machine steps.node steps.next at h.own (grown-of number machine input before after told steps) in
+    hand-goes number machine input act before after told steps h
+    (acts-one number machine input before after told steps act refl) (λ world. refl)
+    (λ world reaches listed. gets-handled before machine board.id steps.node nodes world.floor h at follows from reaches)
+
 -- ---- a replacement
 
 replaces-handled : (s : LineState) (machine was now : ℕ) (node : NodeState) (nodes : List NodeState) (floor : FloorPlan) → Holds s → IsAt s machine node → Follows s.machines nodes → IsMade s.machines nodes now → Reaches s floor → LiesThere was (machine_at floor machine).boards → Handled s nodes (acts.Replaces was now) machine floor (changes machine was now floor)
@@ -707,13 +799,6 @@ replaces-handled s machine was now node nodes floor h at follows made reaches li
       fresh = (made.apart, tt);
       handled = ((each-back (IsOldBoard nodes) change.2.front (change.0 ∷ change.2.back) before).0 was change.1, (made.made, tt));
     }
-
-quiet-hand : (number machine : ℕ) (input : Input) (before after : LineState) (told : List Happening) (steps : MachineSteps number machine input before after told) → hand_of number machine input before after told steps ≡ [] → Holds before → Goes before after told
-quiet-hand number machine input before after told steps none h =
-    let hand = hand_of number machine input before after told steps in
-    let P : List Act → Type 0 = λ list. AreQuiet list in
-    quiet-goes number machine input before after told steps h
-    (acts-quiet number machine input before after told steps (subst P (sym none) tt))
 
 replace-goes : (answer : Result ℕ IdsUsedUp) (kept : Bool) (number machine was : ℕ) (before after : LineState) (told : List Happening) (steps : MachineSteps number machine (inputs.Replace was) before after told) → next_id steps.node.maker ≡ answer → is_kept was (body_read number machine (inputs.Replace was) before after told steps).kept ≡ kept → is_here machine was before.world ≡ true → Holds before → Goes before after told
 replace-goes (Err why) kept number machine was before after told steps is stays here h =
@@ -761,13 +846,16 @@ remark-still h is = one-still h (λ boards. refl) refl refl
 remarks-still : Passes IsRemark IsStill
 remarks-still = record { none = still-none; both = still-join; one = remark-still }
 
-given-goes : (number machine : ℕ) (input : Input) (s after : LineState) (told : List Happening) → Holds s → may_get machine input s ≡ may_do → MachineSteps number machine input s after told → Goes s after told
-given-goes number machine (inputs.Insert barcode) s after told h may did = insert-goes (next_id did.node.maker) number machine barcode s after told did refl h
-given-goes number machine (inputs.Remove id) s after told h may did =
+given-goes : (number machine : ℕ) (input : Input) (s after : LineState) (told : List Happening) → Holds s → ComesFromElsewhere (requests.gives machine input) s → may_get machine input s ≡ may_do → MachineSteps number machine input s after told → Goes s after told
+given-goes number machine (inputs.Insert barcode) s after told h from may did = insert-goes (next_id did.node.maker) number machine barcode s after told did refl h
+given-goes number machine (inputs.Remove id) s after told h from may did =
     remove-goes (is_kept id (body_read number machine (inputs.Remove id) s after told did).kept) number machine id s after told did refl (removes_here machine id s did.node did.there may) h
-given-goes number machine (inputs.Replace was) s after told h may did =
+given-goes number machine (inputs.Replace was) s after told h from may did =
     replace-goes (next_id did.node.maker) (is_kept was (body_read number machine (inputs.Replace was) s after told did).kept) number machine was s after told did refl refl (replaces_here machine was s did.node did.there may) h
-given-goes number machine input s after told h may did = handless-goes number machine input s after told tt h did
+given-goes number machine (inputs.Gives id to) s after told h from may did =
+    gives-goes (is_kept id (body_read number machine (inputs.Gives id to) s after told did).kept) number machine id to s after told did refl (gives_can machine id to s did.node did.there may).here h
+given-goes number machine (inputs.Gets board) s after told h from may did = gets-goes number machine board s after told did from h
+given-goes number machine input s after told h from may did = handless-goes number machine input s after told tt h did
 
 pub met-handless : (on : Connected) → IsHandless (met on)
 met-handless connections.Accepted = tt
@@ -863,29 +951,29 @@ unseen-goes number machine Exit s h may =
 
 -- ---- each effect
 
-effect-goes : (number : ℕ) (request : Request) (s after : LineState) (told : List Happening) → Holds s → Effect number s after told request → Goes s after told
-effect-goes number request s after told h (effects.rests _ what remarks b) = becomes_by (Goes s) b (stays-goes s s what h refl refl (all_pass what remarks-still remarks))
-effect-goes number request s after told h (effects.adds is_bridge capacity used may b) =
-    becomes_by (Goes s) b (more-goes is_bridge capacity used s (added_told is_bridge capacity s) h (all_pass (added_told is_bridge capacity s) remarks-still (added_remarks is_bridge capacity s)))
-effect-goes number request s after told h (effects.steps machine input given may did) = given-goes number machine input s after told h may did
-effect-goes number request s after told h (effects.connects machine may did) = connects-goes number machine s after told h did
-effect-goes number request s after told h (effects.flows machine side count may did) = flows-goes number machine side count s after told h did
-effect-goes number request s after told h (effects.cuts gap may b) =
+effect-goes : (number : ℕ) (request : Request) (s after : LineState) (told : List Happening) → Holds s → ComesFromElsewhere request s → Effect number s after told request → Goes s after told
+effect-goes number request s after told h from (effects.rests _ what remarks b) = becomes_by (Goes s) b (stays-goes s s what h refl refl (all_pass what remarks-still remarks))
+effect-goes number request s after told h from (effects.adds lane is_bridge capacity used may b) =
+    becomes_by (Goes s) b (more-goes lane is_bridge capacity used s (added_told is_bridge capacity s) h (all_pass (added_told is_bridge capacity s) remarks-still (added_remarks is_bridge capacity s)))
+effect-goes number request s after told h from (effects.steps machine input given may did) = given-goes number machine input s after told h from may did
+effect-goes number request s after told h from (effects.connects machine may did) = connects-goes number machine s after told h did
+effect-goes number request s after told h from (effects.flows machine side count may did) = flows-goes number machine side count s after told h did
+effect-goes number request s after told h from (effects.cuts gap may b) =
     becomes_by (Goes s) b (stays-goes s (cut_in gap s) (happenings.Cut gap ∷ []) h refl (floor_stays gap (cut (link_at gap s.world)) s.world) (remark-still (happenings.Cut gap) tt))
-effect-goes number request s after told h (effects.spoils machine side may b) =
+effect-goes number request s after told h from (effects.spoils machine side may b) =
     let link = link_of machine side in
     let floor = floor_stays link (after_spoil (end_of side) (link_at link s.world)) s.world in
     becomes_by (Goes s) b (stays-goes s (spoiled machine side s) (spoil_told machine side s) h refl floor (all_pass (spoil_told machine side s) remarks-still (spoil_remarks machine side s)))
-effect-goes number request s after told h (effects.moves gap step floor is b) = becomes_by (Goes s) b (move-goes gap step s floor is h)
-effect-goes number request s after told h (effects.lies machine sensed may b) = becomes_by (Goes s) b (lie-goes number machine sensed s h)
-effect-goes number request s after told h (effects.unsees machine side may b) = becomes_by (Goes s) b (unseen-goes number machine side s h (unseen-if (machine_in machine s) machine side s tt refl may))
+effect-goes number request s after told h from (effects.moves gap step floor is b) = becomes_by (Goes s) b (move-goes gap step s floor is h)
+effect-goes number request s after told h from (effects.lies machine sensed may b) = becomes_by (Goes s) b (lie-goes number machine sensed s h)
+effect-goes number request s after told h from (effects.unsees machine side may b) = becomes_by (Goes s) b (unseen-goes number machine side s h (unseen-if (machine_in machine s) machine side s tt refl may))
 
 -- EACH LINE STEP
-pub steps-goes : (number : ℕ) (line : ScriptLine) (s after : LineState) (told : List Happening) → Holds s → LineSteps number line s after told → Goes s after told
-steps-goes number line s after told h steps =
+pub steps-goes : (number : ℕ) (request : Request) (s after : LineState) (told : List Happening) → Holds s → ComesFromElsewhere request s → LineSteps number request s after told → Goes s after told
+steps-goes number request s after told h from steps =
     let next = steps.next in
     let count : LineState = record next { lines = steps.lines } in
-    let one = effect-goes number (request_of line) s next steps.done h (line_effect number line s next steps.done steps.does) in
+    let one = effect-goes number request s next steps.done h from (line_effect number request s next steps.done steps.does) in
     let two = stays-goes next count (standings_told s next) one.holds refl refl (all_pass (standings_told s next) remarks-still (standings_remarks s next)) in
     let P : LineState → Type 0 = λ t. Goes s t (steps.done ++ standings_told s next) in
     let Q : List Happening → Type 0 = λ list. Goes s after list in
@@ -902,7 +990,7 @@ beside-goes s after told h beside none =
 
 -- EACH STEP OF A TRACK
 pub track-goes : (number : ℕ) (line : TrackLine) (s after : LineState) (told : List Happening) → Holds s → TrackSteps number line s after told → Goes s after told
-track-goes number (own_line line) s after told h steps = steps-goes number line s after told h steps
+track-goes number (own_line request) s after told h steps = steps-goes number request s after told h steps.1 steps.0
 track-goes number other_line s after told h steps = beside-goes s after told h steps.0 steps.1
 
 -- ---- over a run

@@ -41,6 +41,8 @@ abbrev pub IsQuiet : Act → Type 0
 IsQuiet (acts.Inserts id) = ⊥
 IsQuiet (acts.Removes id) = ⊥
 IsQuiet (acts.Replaces was now) = ⊥
+IsQuiet (acts.Gives id to) = ⊥
+IsQuiet (acts.Gets id) = ⊥
 IsQuiet _ = Unit {0}
 
 abbrev pub AreQuiet : List Act → Type 0
@@ -68,7 +70,8 @@ pub read-quiet : (desk : Desk) (unread : List Sensed) (body : Body)
     → AreQuiet (all_read desk unread body).acts
 read-quiet desk unread body = acts_hold usual-quiet (all_read_made desk unread body) tt
 
--- of an event that puts no board in, takes none out and replaces none
+-- of an event that puts no board in, takes none out and replaces none, and that moves none between
+-- lanes
 pub met-quiet : (desk : Desk) (event : Event) (body : Body) → OfEvent IsQuiet desk event
     → AreQuiet (event_did desk event body).acts
 met-quiet desk event body own = acts_hold usual-quiet (event_made desk event body) own

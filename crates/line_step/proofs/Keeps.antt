@@ -7,7 +7,6 @@ use Rattle.line_base.specs.declared.states.Side.TheVariants.{Entry, Exit}
 use Rattle.line_base.specs.declared.states.Role.{Role}
 use Rattle.line_base.specs.declared.states.Role.TheVariants.{Upstream, Downstream}
 use Rattle.line_link.specs.Link.{LinkParts, after_connect, after_flow, after_spoil, connected_of, cut, no_link, number_of}
-use Rattle.line_script.specs.declared.line.ScriptLine.{ScriptLine}
 use Rattle.line_world.specs.FloorPlan.{AtMachine, FloorPlan, IsWhole, empty_machine, free_gap, gaps_before, one_machine_more}
 use Rattle.line_world.specs.declared.gap.AtGap.{AtGap}
 use Rattle.line_world.specs.Moves.{Around, around_move, around_of, floor_after, floor_move, has_gap}
@@ -34,7 +33,8 @@ use Rattle.line_step.proofs.Connecting.{can_connect, link_before}
 use Rattle.line_report.specs.declared.happening.Happening.{Happening}
 use Rattle.line_report.specs.declared.happening.Reason.{Reason}
 use Rattle.line_report.specs.declared.happening.Reason.TheVariants as reasons
-use Rattle.line_step.proofs.Requests.{IsGiven, Request, request_of}
+use Rattle.line_step.specs.Requests.{Request}
+use Rattle.line_step.proofs.Giving.{IsGiven}
 use Rattle.line_step.proofs.Effects.{Effect, becomes_by, line_effect}
 use Rattle.line_step.proofs.Effects as effects
 
@@ -188,11 +188,11 @@ more_links : (count : ℕ) (links : List LinkParts) (link : ℕ) → at_number (
 more_links zero links link = refl
 more_links (suc k) links link = number_more links link no_link
 
-pub more_at : (is_bridge : Bool) (capacity used : ℕ) (s : LineState) (link : ℕ) → link_at link (one_more is_bridge capacity used s).world ≡ link_at link s.world
-more_at is_bridge capacity used s link = more_links (length s.machines) s.world.links link
+pub more_at : (lane : ℕ) (is_bridge : Bool) (capacity used : ℕ) (s : LineState) (link : ℕ) → link_at link (one_more lane is_bridge capacity used s).world ≡ link_at link s.world
+more_at lane is_bridge capacity used s link = more_links (length s.machines) s.world.links link
 
-more_ends : (is_bridge : Bool) (capacity used : ℕ) (s : LineState) (machine : ℕ) (side : Side) → is_linked machine side (one_more is_bridge capacity used s).world ≡ is_linked machine side s.world
-more_ends is_bridge capacity used s machine side = ap (λ (l : LinkParts). is_some (number_of (end_of side) l)) (more_at is_bridge capacity used s (link_of machine side))
+more_ends : (lane : ℕ) (is_bridge : Bool) (capacity used : ℕ) (s : LineState) (machine : ℕ) (side : Side) → is_linked machine side (one_more lane is_bridge capacity used s).world ≡ is_linked machine side s.world
+more_ends lane is_bridge capacity used s machine side = ap (λ (l : LinkParts). is_some (number_of (end_of side) l)) (more_at lane is_bridge capacity used s (link_of machine side))
 
 -- the new machine has no connections, and its links have none
 new_closed : (profile : NodeProfile) (side : Side) → is_open side (new_node profile).lane.body ≡ false
@@ -214,14 +214,14 @@ last_ends s together machine is Exit =
     let links = together.links in
     none_at machine s.world (inr (omega arith)) Upstream
 
-more_joined : (is_bridge : Bool) (capacity used : ℕ) (s : LineState) → IsLineTogether s → (machine : ℕ) (side : Side) (node : NodeState) → machine_in machine (one_more is_bridge capacity used s) ≡ Some node → is_linked machine side (one_more is_bridge capacity used s).world ≡ is_open side node.lane.body
-more_joined is_bridge capacity used s together zero side node is = absurd (cc)
-more_joined is_bridge capacity used s together (suc place) side node is =
-    let new = new_node (profile_of is_bridge (length s.machines + 1) capacity used) in
-    more_ends is_bridge capacity used s (suc place) side ∙
+more_joined : (lane : ℕ) (is_bridge : Bool) (capacity used : ℕ) (s : LineState) → IsLineTogether s → (machine : ℕ) (side : Side) (node : NodeState) → machine_in machine (one_more lane is_bridge capacity used s) ≡ Some node → is_linked machine side (one_more lane is_bridge capacity used s).world ≡ is_open side node.lane.body
+more_joined lane is_bridge capacity used s together zero side node is = absurd (cc)
+more_joined lane is_bridge capacity used s together (suc place) side node is =
+    let new = new_node (profile_of lane is_bridge (length s.machines + 1) capacity used) in
+    more_ends lane is_bridge capacity used s (suc place) side ∙
     elim (get_more s.machines new node place is) [
       | inl was ↦ together.joined (suc place) side node was
-      | inr last ↦ last_ends s together (suc place) (omega (arith, last.0)) side ∙ sym (new_closed (profile_of is_bridge (length s.machines + 1) capacity used) side) ∙ ap (λ (n : NodeState). is_open side n.lane.body) last.1
+      | inr last ↦ last_ends s together (suc place) (omega (arith, last.0)) side ∙ sym (new_closed (profile_of lane is_bridge (length s.machines + 1) capacity used) side) ∙ ap (λ (n : NodeState). is_open side n.lane.body) last.1
     ]
 
 -- each machine but the first comes with a gap before it
@@ -236,10 +236,10 @@ pub not_full : (test : Bool) (reason : Reason) → no_if test reason may_do ≡ 
 not_full true reason is = absurd (cc)
 not_full false reason is = refl
 
-pub more_together : (is_bridge : Bool) (capacity used : ℕ) (s : LineState) → may_add s ≡ may_do → IsLineTogether s → IsLineTogether (one_more is_bridge capacity used s)
-more_together is_bridge capacity used s may together =
+pub more_together : (lane : ℕ) (is_bridge : Bool) (capacity used : ℕ) (s : LineState) → may_add s ≡ may_do → IsLineTogether s → IsLineTogether (one_more lane is_bridge capacity used s)
+more_together lane is_bridge capacity used s may together =
     let room = not_full (nat_le most_machines (length s.machines)) reasons.LineFull may in
-    let machines = length-append s.machines (new_node (profile_of is_bridge (length s.machines + 1) capacity used) ∷ []) in
+    let machines = length-append s.machines (new_node (profile_of lane is_bridge (length s.machines + 1) capacity used) ∷ []) in
     let places = length-append s.world.floor.machines (empty_machine ∷ []) in
     let floor = together.floor in
     let short = together.short in
@@ -248,7 +248,7 @@ more_together is_bridge capacity used s may together =
       short = short;
       floor = omega (arith, machines, places);
       links = links_counted (length s.machines) s.world.links together.links ∙ ap (λ n. n - 1) (sym machines);
-      joined = more_joined is_bridge capacity used s together;
+      joined = more_joined lane is_bridge capacity used s together;
     }
 
 -- ---- a line of the script
@@ -274,8 +274,8 @@ given_none _ given = λ side opened. refl
 
 effect_does : (number : ℕ) (request : Request) (before after : LineState) (told : List Happening) → Effect number before after told request → Does before after
 effect_does number request before after told (effects.rests _ what remarks b) = becomes_by (λ s ts. Does before s) b (does before before (keeps_still before))
-effect_does number request before after told (effects.adds is_bridge capacity used may b) =
-    becomes_by (λ s ts. Does before s) b (record { lines = refl; whole = more_whole before.world.floor; together = more_together is_bridge capacity used before may })
+effect_does number request before after told (effects.adds lane is_bridge capacity used may b) =
+    becomes_by (λ s ts. Does before s) b (record { lines = refl; whole = more_whole before.world.floor; together = more_together lane is_bridge capacity used before may })
 effect_does number request before after told (effects.steps machine input given may did) = steps_do number machine input before after told (given_none input given) did
 effect_does number request before after told (effects.connects machine may did) = does before after (connects_keep number machine before after told may did)
 effect_does number request before after told (effects.flows machine side count may did) = does before after (flows_keep number machine side count before after told did)
@@ -289,27 +289,27 @@ effect_does number request before after told (effects.moves gap step floor is b)
 effect_does number request before after told (effects.lies machine sensed may b) = becomes_by (λ s ts. Does before s) b (does before _ (lied_keeps number machine sensed before))
 effect_does number request before after told (effects.unsees machine side may b) = becomes_by (λ s ts. Does before s) b (does before _ (unseen_keeps number machine side before))
 
-line_does : (number : ℕ) (line : ScriptLine) (before next : LineState) (told : List Happening) → LineDoes number line before next told → Does before next
-line_does number line before next told is = effect_does number (request_of line) before next told (line_effect number line before next told is)
+line_does : (number : ℕ) (request : Request) (before next : LineState) (told : List Happening) → LineDoes number request before next told → Does before next
+line_does number request before next told is = effect_does number request before next told (line_effect number request before next told is)
 
-pub lines_stay : (number : ℕ) (line : ScriptLine) (before next : LineState) (told : List Happening) → LineDoes number line before next told → next.lines ≡ before.lines
-lines_stay number line before next told is = (line_does number line before next told is).lines
+pub lines_stay : (number : ℕ) (request : Request) (before next : LineState) (told : List Happening) → LineDoes number request before next told → next.lines ≡ before.lines
+lines_stay number request before next told is = (line_does number request before next told is).lines
 
 -- between each two machines there goes on to be a gap
-pub whole_stays : (number : ℕ) (line : ScriptLine) (before next : LineState) (told : List Happening) → IsWhole before.world.floor → LineDoes number line before next told → IsWhole next.world.floor
-whole_stays number line before next told whole is = (line_does number line before next told is).whole whole
+pub whole_stays : (number : ℕ) (request : Request) (before next : LineState) (told : List Happening) → IsWhole before.world.floor → LineDoes number request before next told → IsWhole next.world.floor
+whole_stays number request before next told whole is = (line_does number request before next told is).whole whole
 
-pub does_together : (number : ℕ) (line : ScriptLine) (before next : LineState) (told : List Happening) → IsLineTogether before → LineDoes number line before next told → IsLineTogether next
-does_together number line before next told together is = (line_does number line before next told is).together together
+pub does_together : (number : ℕ) (request : Request) (before next : LineState) (told : List Happening) → IsLineTogether before → LineDoes number request before next told → IsLineTogether next
+does_together number request before next told together is = (line_does number request before next told is).together together
 
 -- and is counted
 counted_line : (lines : ℕ) (s : LineState) → lines ≤ 1000000 → IsLineTogether s → IsLineTogether (record s { lines = lines })
 counted_line lines s few together = record { few = together.few; short = few; floor = together.floor; links = together.links; joined = together.joined }
 
-pub keeps_together : (number : ℕ) (line : ScriptLine) (before after : LineState) (told : List Happening)
-    → number ≡ before.lines + 1 → number ≤ 1000000 → IsLineTogether before → LineSteps number line before after told → IsLineTogether after
-keeps_together number line before after told is few together did =
+pub keeps_together : (number : ℕ) (request : Request) (before after : LineState) (told : List Happening)
+    → number ≡ before.lines + 1 → number ≤ 1000000 → IsLineTogether before → LineSteps number request before after told → IsLineTogether after
+keeps_together number request before after told is few together did =
     let next = did.next in
-    let same = lines_stay number line before next did.done did.does in
+    let same = lines_stay number request before next did.done did.does in
     let P : LineState → Type 0 = λ (s : LineState). IsLineTogether s in
-    subst P (sym did.after_is) (counted_line did.lines next (omega (arith, is, few, same, did.counts.most)) (does_together number line before next did.done together did.does))
+    subst P (sym did.after_is) (counted_line did.lines next (omega (arith, is, few, same, did.counts.most)) (does_together number request before next did.done together did.does))

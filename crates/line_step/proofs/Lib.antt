@@ -3,9 +3,10 @@ pub mod Nearby
 pub mod WithTells
 pub mod Answering
 pub mod Remarks
-pub mod Requests
+pub mod Giving
 pub mod Effects
 pub mod Turns
+pub mod Shifted
 pub mod Getting
 pub mod Quiet
 pub mod Opening
@@ -29,5 +30,6 @@ pub mod OnFloor
 pub mod FloorLaws
 pub mod Vouching
 pub mod Playing
+pub mod Newcomers
 pub mod Once
 pub mod LineOnce

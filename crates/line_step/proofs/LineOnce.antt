@@ -23,6 +23,7 @@ use Rattle.node_core.specs.declared.input.No.{No}
 use Rattle.node_core.specs.declared.input.No.TheVariants as no
 use Rattle.node_core.specs.declared.lane.Body.{Body}
 use Rattle.node_core.specs.Announces.{is_intake_free}
+use Rattle.handover_out.specs.State.{is_id}
 use Rattle.node_core.specs.Boards.{is_kept}
 use Rattle.node_core.specs.Desk.{Desk}
 use Rattle.node_core.specs.May as node
@@ -44,14 +45,14 @@ use Rattle.line_step.specs.State.{LineState, machine_in, one_more, owned, owned_
 use Rattle.line_step.specs.Acts.{acts_did}
 use Rattle.line_step.specs.Steps.{MachineSteps, is_second, moment_of, read_by, unread_by}
 use Rattle.line_step.specs.Together.{is_linked}
-use Rattle.line_step.specs.Reasons.{May, behind_own, has_neighbour, if_there, is_dry_at, is_here, link_stands, may_add, may_answer, may_connect, may_cut, may_do, may_flow, may_give, may_lie, may_notice, may_remove, may_replace, may_sense, may_spoil, may_stop, may_unseen, is_bare, no_if, with_word, word_kept}
+use Rattle.line_step.specs.Reasons.{May, behind_own, has_neighbour, if_there, is_dry_at, is_here, link_stands, may_add, may_answer, may_connect, may_cut, may_do, may_flow, may_give, may_give_away, may_lie, may_notice, may_remove, may_replace, may_sense, may_spoil, may_stop, may_take_in, may_unseen, is_bare, no_if, with_word, word_kept}
 use Rattle.line_step.specs.Shown.{ascending, between_shown, ids_owned, kept_shown, shown, shown_from, standing_told, standings_told, taken_below}
 use Rattle.line_step.specs.Lines.{Becomes, Connects, Flows, LineDoes, LineSteps, Moves, Unless, arrived, connecting, cut_in, lied, met, move_told, moved, spoiled, unseen}
 use Rattle.line_step.specs.Runs.{Point, state_behind, told_text}
 use Rattle.line_step.specs.Parts.{IsPlay, IsScriptRun, Part, count_behind, cut_where, entry_where, exit_where, parts_of, script_parts, where_may}
 use Rattle.line_step.proofs.Once.{AreAlike, IsDry, OneMeaning, StepsOnce, desk-same, steps-bytes, steps-dry}
-use Rattle.line_step.proofs.Requests.{GivesInput, IsGiven, Request, RequestDoes, added_told, line_gives, line_requests, may_get, request_of}
-use Rattle.line_step.proofs.Requests as requests
+use Rattle.line_step.specs.Requests.{Request, added_told, may_get, request_of}
+use Rattle.line_step.specs.Requests as requests
 
 -- ---- lines of machines that are alike
 
@@ -76,13 +77,13 @@ pub record DoesOnce (s t : LineState) (told other : List Happening) : Type 0 whe
 alike-self : (a : NodeState) → AreAlike a a
 alike-self a = record { spent = refl; name = refl; number = refl; capacity = refl; maker = refl; bridge = refl; forecasts = refl; supervised = refl; orders = refl; body = refl; entry = λ opened. refl; exit = λ opened. refl }
 
-length-alike : (xs ys : List NodeState) → AreAllAlike xs ys → length ys ≡ length xs
+pub length-alike : (xs ys : List NodeState) → AreAllAlike xs ys → length ys ≡ length xs
 length-alike [] [] all = refl
 length-alike [] (b ∷ bs) all = absurd all
 length-alike (a ∷ xs) [] all = absurd all
 length-alike (a ∷ xs) (b ∷ ys) all = ap suc (length-alike xs ys all.1)
 
-abbrev FoundAlike : Option NodeState → Option NodeState → Type 0
+abbrev pub FoundAlike : Option NodeState → Option NodeState → Type 0
 FoundAlike None None = Unit {0}
 FoundAlike None (Some _) = ⊥
 FoundAlike (Some _) None = ⊥
@@ -95,11 +96,11 @@ get-alike (a ∷ xs) [] place all = absurd all
 get-alike (a ∷ xs) (b ∷ ys) zero all = all.0
 get-alike (a ∷ xs) (b ∷ ys) (suc place) all = get-alike xs ys place all.1
 
-found-alike : (machine : ℕ) (s : LineState) (nodes : List NodeState) → AreAllAlike s.machines nodes → FoundAlike (machine_in machine s) (machine_in machine (like s nodes))
+pub found-alike : (machine : ℕ) (s : LineState) (nodes : List NodeState) → AreAllAlike s.machines nodes → FoundAlike (machine_in machine s) (machine_in machine (like s nodes))
 found-alike zero s nodes all = tt
 found-alike (suc before) s nodes all = get-alike s.machines nodes before all
 
-both-alike : (x y : Option NodeState) (a b : NodeState) → FoundAlike x y → x ≡ Some a → y ≡ Some b → AreAlike a b
+pub both-alike : (x y : Option NodeState) (a b : NodeState) → FoundAlike x y → x ≡ Some a → y ≡ Some b → AreAlike a b
 both-alike x y a b found is is' =
     let P : Option NodeState → Type 0 = λ o. FoundAlike o y in
     let Q : Option NodeState → Type 0 = λ o. FoundAlike (Some a) o in
@@ -118,7 +119,7 @@ push-alike [] (y ∷ ys) a b all one = absurd all
 push-alike (x ∷ xs) [] a b all one = absurd all
 push-alike (x ∷ xs) (y ∷ ys) a b all one = (all.0, push-alike xs ys a b all.1 one)
 
-owned-alike : (xs ys : List NodeState) → AreAllAlike xs ys → map owned_by ys ≡ map owned_by xs
+pub owned-alike : (xs ys : List NodeState) → AreAllAlike xs ys → map owned_by ys ≡ map owned_by xs
 owned-alike [] [] all = refl
 owned-alike [] (y ∷ ys) all = absurd all
 owned-alike (x ∷ xs) [] all = absurd all
@@ -126,7 +127,7 @@ owned-alike (x ∷ xs) (y ∷ ys) all =
     let own_at : Body → Owned = λ body. record { kept = (own_of body).kept; held = (own_of body).held; taking = (own_of body).taking } in
     ap (λ (o : Owned). o ∷ map owned_by ys) (ap own_at all.0.body) ∙ ap (λ os. owned_by x ∷ os) (owned-alike xs ys all.1)
 
-below-alike : (xs ys : List NodeState) → AreAllAlike xs ys → taken_below ys ≡ taken_below xs
+pub below-alike : (xs ys : List NodeState) → AreAllAlike xs ys → taken_below ys ≡ taken_below xs
 below-alike [] [] all = refl
 below-alike [] (y ∷ ys) all = absurd all
 below-alike (x ∷ xs) [] all = absurd all
@@ -173,6 +174,8 @@ may-alike (inputs.Remove id) a b alike = ap (node.may_remove id) alike.body
 may-alike (inputs.Replace id) a b alike = may-replace id a b alike
 may-alike (inputs.Mark id quality) a b alike = ap (node.may_mark id) alike.body
 may-alike (inputs.Sub id place barcode) a b alike = ap (node.may_sub id (unknown_sub place barcode)) alike.body
+may-alike (inputs.Gives id to) a b alike = refl
+may-alike (inputs.Gets board) a b alike = refl
 may-alike inputs.Forecast a b alike = ap node.may_forecast alike.body
 may-alike (inputs.Query barcode) a b alike = ap node.may_query alike.body
 may-alike (inputs.Supervise on) a b alike =
@@ -191,7 +194,7 @@ may-alike (inputs.Answer query order) a b alike =
     ∙ ap (f a.supervised) alike.orders
 may-alike _ a b alike = ap node.may_reach_any alike.body
 
-there-alike : (x y : Option NodeState) (f g : NodeState → May) → FoundAlike x y → ((a b : NodeState) → AreAlike a b → g b ≡ f a) → if_there y g ≡ if_there x f
+pub there-alike : (x y : Option NodeState) (f g : NodeState → May) → FoundAlike x y → ((a b : NodeState) → AreAlike a b → g b ≡ f a) → if_there y g ≡ if_there x f
 there-alike None None f g found same = refl
 there-alike None (Some b) f g found same = absurd found
 there-alike (Some a) None f g found same = absurd found
@@ -232,14 +235,31 @@ replace-alike machine id s nodes all =
     there-alike (machine_in machine s) (machine_in machine (like s nodes)) _ _ (found-alike machine s nodes all)
     (λ a b alike. ap (λ own. f own (node.may_of b (inputs.Replace id))) (may-alike (inputs.Remove id) a b alike) ∙ ap (f (node.may_of a (inputs.Remove id))) (may-alike (inputs.Replace id) a b alike))
 
+-- a board goes to another lane, or comes from one
+pub away-alike : (machine id : ℕ) (s : LineState) (nodes : List NodeState) → AreAllAlike s.machines nodes → may_give_away machine id (like s nodes) ≡ may_give_away machine id s
+away-alike machine id s nodes all =
+    let f : Option BridgeLevels → Body → May = λ bridge body.
+    no_if (is_some bridge) (reasons.Node no.Bridge)
+    (no_if (not (is_kept id body.kept)) (reasons.Node no.NotKept)
+    (no_if (not (is_here machine id s.world)) reasons.NotHere
+    (no_if (is_id body.last_offer id) (reasons.Node no.WasOffered) may_do))) in
+    there-alike (machine_in machine s) (machine_in machine (like s nodes)) _ _ (found-alike machine s nodes all)
+    (λ a b alike. ap (λ bridge. f bridge b.lane.body) alike.bridge ∙ ap (f a.bridge) alike.body)
+
+pub take_in-alike : (machine : ℕ) (s : LineState) (nodes : List NodeState) → AreAllAlike s.machines nodes → may_take_in machine (like s nodes) ≡ may_take_in machine s
+take_in-alike machine s nodes all =
+    let f : Desk → Body → May = λ desk body. behind_own (node.no_if (not (is_intake_free body)) no.IntakeOpen (node.no_if (not (has_place desk body)) no.Full node.may_do)) may_do in
+    there-alike (machine_in machine s) (machine_in machine (like s nodes)) _ _ (found-alike machine s nodes all)
+    (λ a b alike. ap (λ desk. f desk b.lane.body) (desk-same a b (pos 0) alike) ∙ ap (f (desk_of a (pos 0))) alike.body)
+
 neighbour-alike : (machine : ℕ) (side : Side) (s : LineState) (nodes : List NodeState) → AreAllAlike s.machines nodes → has_neighbour machine side (like s nodes) ≡ has_neighbour machine side s
 neighbour-alike machine Entry s nodes all = refl
 neighbour-alike machine Exit s nodes all = rw (length-alike s.machines nodes all) refl
 
-add-alike : (s : LineState) (nodes : List NodeState) → AreAllAlike s.machines nodes → may_add (like s nodes) ≡ may_add s
+pub add-alike : (s : LineState) (nodes : List NodeState) → AreAllAlike s.machines nodes → may_add (like s nodes) ≡ may_add s
 add-alike s nodes all = rw (length-alike s.machines nodes all) refl
 
-cut-alike : (gap : ℕ) (s : LineState) (nodes : List NodeState) → AreAllAlike s.machines nodes → may_cut gap (like s nodes) ≡ may_cut gap s
+pub cut-alike : (gap : ℕ) (s : LineState) (nodes : List NodeState) → AreAllAlike s.machines nodes → may_cut gap (like s nodes) ≡ may_cut gap s
 cut-alike gap s nodes all = rw (length-alike s.machines nodes all) refl
 
 connect-alike : (machine : ℕ) (s : LineState) (nodes : List NodeState) → AreAllAlike s.machines nodes → may_connect machine (like s nodes) ≡ may_connect machine s
@@ -253,7 +273,7 @@ flow-alike machine side s nodes all =
     there-alike (machine_in machine s) (machine_in machine (like s nodes)) _ _ (found-alike machine s nodes all)
     (λ a b alike. ap (λ has. f has b.lane.body) (neighbour-alike machine side s nodes all) ∙ ap (f (has_neighbour machine side s)) alike.body)
 
-notice-alike : (machine : ℕ) (side : Side) (s : LineState) (nodes : List NodeState) → AreAllAlike s.machines nodes → may_notice machine side (like s nodes) ≡ may_notice machine side s
+pub notice-alike : (machine : ℕ) (side : Side) (s : LineState) (nodes : List NodeState) → AreAllAlike s.machines nodes → may_notice machine side (like s nodes) ≡ may_notice machine side s
 notice-alike machine side s nodes all =
     let f : Bool → Body → May = λ has body. no_if (not has) reasons.NoNeighbour (behind_own (node.may_reach side body) (no_if (link_stands machine side s.world) reasons.Standing (no_if (not (is_dry_at machine side s.world)) reasons.TextInFlight may_do))) in
     there-alike (machine_in machine s) (machine_in machine (like s nodes)) _ _ (found-alike machine s nodes all)
@@ -264,7 +284,7 @@ spoil-alike machine side s nodes all =
     there-alike (machine_in machine s) (machine_in machine (like s nodes)) _ _ (found-alike machine s nodes all)
     (λ a b alike. ap (λ has. no_if (not has) reasons.NoNeighbour (no_if (not (is_linked machine side s.world)) (reasons.Node no.NotConnected) (no_if (not (link_stands machine side s.world)) (reasons.Node no.NotStanding) may_do))) (neighbour-alike machine side s nodes all))
 
-stop-alike : (machine : ℕ) (s : LineState) (nodes : List NodeState) → AreAllAlike s.machines nodes → may_stop machine (like s nodes) ≡ may_stop machine s
+pub stop-alike : (machine : ℕ) (s : LineState) (nodes : List NodeState) → AreAllAlike s.machines nodes → may_stop machine (like s nodes) ≡ may_stop machine s
 stop-alike machine s nodes all = there-alike (machine_in machine s) (machine_in machine (like s nodes)) _ _ (found-alike machine s nodes all) (λ a b alike. refl)
 
 sense-alike : (machine : ℕ) (s : LineState) (nodes : List NodeState) → AreAllAlike s.machines nodes → may_sense machine (like s nodes) ≡ may_sense machine s
@@ -324,7 +344,7 @@ stepped-once number machine input input' s after nodes after' told other all sec
     becomes-once next next' after after' (g (is_second input) one.acts) (g (is_second input') two.acts) told other alike tolds
     (record { after_is = one.after_is; told_is = one.told_is }) (record { after_is = two.after_is; told_is = two.told_is })
 
-dry-once : (number machine : ℕ) (input : Input) (s after : LineState) (nodes : List NodeState) (after' : LineState) (told other : List Happening) → IsDry input → AreAllAlike s.machines nodes
+pub dry-once : (number machine : ℕ) (input : Input) (s after : LineState) (nodes : List NodeState) (after' : LineState) (told other : List Happening) → IsDry input → AreAllAlike s.machines nodes
     → MachineSteps number machine input s after told → MachineSteps number machine input (like s nodes) after' other → DoesOnce after after' told other
 dry-once number machine input s after nodes after' told other dry all one two =
     stepped-once number machine input input s after nodes after' told other all refl one two
@@ -358,18 +378,18 @@ moves-once gap step s after nodes after' told other all one two =
     let answer = floor_move gap step s.world.floor in
     becomes-once (moved answer s) (moved answer (like s nodes)) after after' (move_told gap step answer) (move_told gap step answer) told other (moved-alike answer s nodes all) refl one two
 
-more-alike : (is_bridge : Bool) (capacity used : ℕ) (s : LineState) (nodes : List NodeState) → AreAllAlike s.machines nodes → LinesAlike (one_more is_bridge capacity used s) (one_more is_bridge capacity used (like s nodes))
-more-alike is_bridge capacity used s nodes all =
+pub more-alike : (lane : ℕ) (is_bridge : Bool) (capacity used : ℕ) (s : LineState) (nodes : List NodeState) → AreAllAlike s.machines nodes → LinesAlike (one_more lane is_bridge capacity used s) (one_more lane is_bridge capacity used (like s nodes))
+more-alike lane is_bridge capacity used s nodes all =
     let many = length-alike s.machines nodes all in
-    let made : ℕ → NodeState = λ n. new_node (profile_of is_bridge (n + 1) capacity used) in
+    let made : ℕ → NodeState = λ n. new_node (profile_of lane is_bridge (n + 1) capacity used) in
     let P : NodeState → Type 0 = λ b. AreAllAlike (s.machines ++ made (length s.machines) ∷ []) (nodes ++ b ∷ []) in
-    let f : ℕ → LineState = λ n. record (one_more is_bridge capacity used (like s nodes)) { world = record (one_more is_bridge capacity used s).world { links = links_more n s.world.links } } in
+    let f : ℕ → LineState = λ n. record (one_more lane is_bridge capacity used (like s nodes)) { world = record (one_more lane is_bridge capacity used s).world { links = links_more n s.world.links } } in
     record {
       machines = subst P (sym (ap made many)) (push-alike s.machines nodes (made (length s.machines)) (made (length s.machines)) all (alike-self (made (length s.machines))));
       same = ap f many;
     }
 
-added-alike : (is_bridge : Bool) (capacity : ℕ) (s : LineState) (nodes : List NodeState) → AreAllAlike s.machines nodes → added_told is_bridge capacity (like s nodes) ≡ added_told is_bridge capacity s
+pub added-alike : (is_bridge : Bool) (capacity : ℕ) (s : LineState) (nodes : List NodeState) → AreAllAlike s.machines nodes → added_told is_bridge capacity (like s nodes) ≡ added_told is_bridge capacity s
 added-alike true capacity s nodes all = ap (λ n. happenings.Bridge (n + 1) capacity ∷ []) (length-alike s.machines nodes all)
 added-alike false capacity s nodes all = ap (λ n. happenings.Machine (n + 1) capacity ∷ []) (length-alike s.machines nodes all)
 
@@ -383,39 +403,46 @@ getting-alike machine (inputs.Replace id) s nodes all = replace-alike machine id
 getting-alike machine (inputs.Notice side) s nodes all = notice-alike machine side s nodes all
 getting-alike machine inputs.Nothing s nodes all = sense-alike machine s nodes all
 getting-alike machine (inputs.Answer query order) s nodes all = answer-alike machine query order s nodes all
+getting-alike machine inputs.Connect s nodes all = refl
+getting-alike machine inputs.Accepted s nodes all = refl
+getting-alike machine inputs.Second s nodes all = refl
+getting-alike machine (inputs.Bytes side piece) s nodes all = refl
+getting-alike machine (inputs.Gives id to) s nodes all = away-alike machine id s nodes all
+getting-alike machine (inputs.Gets board) s nodes all = take_in-alike machine s nodes all
 getting-alike machine input s nodes all = give-alike machine input s nodes all
 
-given-dry : (input : Input) → IsGiven input → IsDry input
-given-dry (inputs.Bytes side piece) given = absurd given
-given-dry _ given = tt
-
-does-once : OneMeaning → (number : ℕ) (request : Request) (s after : LineState) (nodes : List NodeState) (after' : LineState) (told other : List Happening) → GivesInput request → AreAllAlike s.machines nodes → RequestDoes number request s after told → RequestDoes number request (like s nodes) after' other → DoesOnce after after' told other
-does-once law number requests.nothing s after nodes after' told other given all one two = becomes-once s (like s nodes) after after' [] [] told other (stays-alike s nodes all) refl one two
-does-once law number requests.shows s after nodes after' told other given all one two = becomes-once s (like s nodes) after after' (shown s) (shown (like s nodes)) told other (stays-alike s nodes all) (shown-alike 1 s.machines nodes all) one two
-does-once law number (requests.adds is_bridge capacity used) s after nodes after' told other given all one two =
-    unless-once (may_add s) (may_add (like s nodes)) s after nodes after' told other _ _ all (add-alike s nodes all)
-    (becomes-once (one_more is_bridge capacity used s) (one_more is_bridge capacity used (like s nodes)) after after' (added_told is_bridge capacity s) (added_told is_bridge capacity (like s nodes)) told other (more-alike is_bridge capacity used s nodes all) (added-alike is_bridge capacity s nodes all)) one two
-does-once law number (requests.gives machine input) s after nodes after' told other given all one two =
+-- bytes are given by nobody, so what is given is dry
+gives-once : (number machine : ℕ) (input : Input) (s after : LineState) (nodes : List NodeState) (after' : LineState) (told other : List Happening) → AreAllAlike s.machines nodes → LineDoes number (requests.gives machine input) s after told → LineDoes number (requests.gives machine input) (like s nodes) after' other → DoesOnce after after' told other
+gives-once number machine (inputs.Bytes side piece) s after nodes after' told other all one two = becomes-once s (like s nodes) after after' _ _ told other (stays-alike s nodes all) refl one two
+gives-once number machine input s after nodes after' told other all one two =
     unless-once (may_get machine input s) (may_get machine input (like s nodes)) s after nodes after' told other _ _ all (getting-alike machine input s nodes all)
-    (dry-once number machine input s after nodes after' told other (given-dry input given) all) one two
-does-once law number (requests.connects machine) s after nodes after' told other given all one two =
+    (dry-once number machine input s after nodes after' told other tt all) one two
+
+pub does-once : OneMeaning → (number : ℕ) (request : Request) (s after : LineState) (nodes : List NodeState) (after' : LineState) (told other : List Happening) → AreAllAlike s.machines nodes → LineDoes number request s after told → LineDoes number request (like s nodes) after' other → DoesOnce after after' told other
+does-once law number requests.nothing s after nodes after' told other all one two = becomes-once s (like s nodes) after after' [] [] told other (stays-alike s nodes all) refl one two
+does-once law number requests.shows s after nodes after' told other all one two = becomes-once s (like s nodes) after after' (shown s) (shown (like s nodes)) told other (stays-alike s nodes all) (shown-alike 1 s.machines nodes all) one two
+does-once law number (requests.adds lane is_bridge capacity used) s after nodes after' told other all one two =
+    unless-once (may_add s) (may_add (like s nodes)) s after nodes after' told other _ _ all (add-alike s nodes all)
+    (becomes-once (one_more lane is_bridge capacity used s) (one_more lane is_bridge capacity used (like s nodes)) after after' (added_told is_bridge capacity s) (added_told is_bridge capacity (like s nodes)) told other (more-alike lane is_bridge capacity used s nodes all) (added-alike is_bridge capacity s nodes all)) one two
+does-once law number (requests.gives machine input) s after nodes after' told other all one two = gives-once number machine input s after nodes after' told other all one two
+does-once law number (requests.connects machine) s after nodes after' told other all one two =
     unless-once (may_connect machine s) (may_connect machine (like s nodes)) s after nodes after' told other _ _ all (connect-alike machine s nodes all) (connects-once number machine s after nodes after' told other all) one two
-does-once law number (requests.flows machine side count) s after nodes after' told other given all one two =
+does-once law number (requests.flows machine side count) s after nodes after' told other all one two =
     unless-once (may_flow machine side s) (may_flow machine side (like s nodes)) s after nodes after' told other _ _ all (flow-alike machine side s nodes all) (flows-once law number machine side count s after nodes after' told other all) one two
-does-once law number (requests.cuts gap) s after nodes after' told other given all one two =
+does-once law number (requests.cuts gap) s after nodes after' told other all one two =
     unless-once (may_cut gap s) (may_cut gap (like s nodes)) s after nodes after' told other _ _ all (cut-alike gap s nodes all)
     (becomes-once (cut_in gap s) (cut_in gap (like s nodes)) after after' (happenings.Cut gap ∷ []) (happenings.Cut gap ∷ []) told other (record { machines = all; same = refl }) refl) one two
-does-once law number (requests.stops machine) s after nodes after' told other given all one two =
+does-once law number (requests.stops machine) s after nodes after' told other all one two =
     unless-once (may_stop machine s) (may_stop machine (like s nodes)) s after nodes after' told other _ _ all (stop-alike machine s nodes all)
     (becomes-once s (like s nodes) after after' (happenings.Stop machine ∷ []) (happenings.Stop machine ∷ []) told other (stays-alike s nodes all) refl) one two
-does-once law number (requests.spoils machine side) s after nodes after' told other given all one two =
+does-once law number (requests.spoils machine side) s after nodes after' told other all one two =
     unless-once (may_spoil machine side s) (may_spoil machine side (like s nodes)) s after nodes after' told other _ _ all (spoil-alike machine side s nodes all)
     (becomes-once (spoiled machine side s) (spoiled machine side (like s nodes)) after after' _ _ told other (record { machines = all; same = refl }) refl) one two
-does-once law number (requests.moves_on gap step) s after nodes after' told other given all one two = moves-once gap step s after nodes after' told other all one two
-does-once law number (requests.lies machine sensed) s after nodes after' told other given all one two =
+does-once law number (requests.moves_on gap step) s after nodes after' told other all one two = moves-once gap step s after nodes after' told other all one two
+does-once law number (requests.lies machine sensed) s after nodes after' told other all one two =
     unless-once (may_lie machine sensed.side s) (may_lie machine sensed.side (like s nodes)) s after nodes after' told other _ _ all (lie-alike machine sensed.side s nodes all)
     (becomes-once (lied number machine sensed s) (lied number machine sensed (like s nodes)) after after' _ _ told other (record { machines = all; same = refl }) refl) one two
-does-once law number (requests.unsees machine side) s after nodes after' told other given all one two =
+does-once law number (requests.unsees machine side) s after nodes after' told other all one two =
     unless-once (may_unseen machine side s) (may_unseen machine side (like s nodes)) s after nodes after' told other _ _ all (unseen-alike machine side s nodes all)
     (becomes-once (unseen number machine side s) (unseen number machine side (like s nodes)) after after' _ _ told other (unseen-once number machine side s nodes all) refl) one two
 
@@ -426,10 +453,10 @@ standings-once before before' next next' same later =
     ap (λ old. f old (owned next')) same ∙ ap (f (owned before)) later
 
 -- A LINE STEP does one thing, however far the count of lines goes on
-pub line-once : OneMeaning → (number : ℕ) (line : ScriptLine) (s after t after' : LineState) (told other : List Happening) → LinesAlike s t → after'.lines ≡ after.lines → LineSteps number line s after told → LineSteps number line t after' other → DoesOnce after after' told other
-line-once law number line s after t after' told other alike counted one two =
-    let P : LineState → Type 0 = λ b. LineDoes number line b two.next two.done in
-    let once = does-once law number (request_of line) s one.next t.machines two.next one.done two.done (line_gives line) alike.machines (line_requests number line s one.next one.done one.does) (line_requests number line (like s t.machines) two.next two.done (subst P alike.same two.does)) in
+pub line-once : OneMeaning → (number : ℕ) (request : Request) (s after t after' : LineState) (told other : List Happening) → LinesAlike s t → after'.lines ≡ after.lines → LineSteps number request s after told → LineSteps number request t after' other → DoesOnce after after' told other
+line-once law number request s after t after' told other alike counted one two =
+    let P : LineState → Type 0 = λ b. LineDoes number request b two.next two.done in
+    let once = does-once law number request s one.next t.machines two.next one.done two.done alike.machines one.does (subst P alike.same two.does) in
     let count : ℕ → LineState → LineState = λ n next. record next { lines = n } in
     let Q : LineState → Type 0 = λ a. LinesAlike a (count two.lines two.next) in
     let R : LineState → Type 0 = λ b. LinesAlike after b in
@@ -486,10 +513,10 @@ play-once law s t (part ∷ parts) (point ∷ points) [] steady alike one two = 
 play-once law s t (part ∷ parts) (point ∷ points) (other ∷ others) steady alike one two =
     let counted : t.lines ≡ s.lines = ap (λ (b : LineState). b.lines) alike.same in
     let as_far : other.after.lines ≡ point.after.lines = two.0.counted ∙ ap (count_behind part.ends) counted ∙ sym one.0.counted in
-    let P : ℕ → Type 0 = λ n. LineSteps (n + 1) (part.line t) t other.after other.told in
-    let Q : ScriptLine → Type 0 = λ line. LineSteps (s.lines + 1) line t other.after other.told in
-    let same : LineSteps (s.lines + 1) (part.line s) t other.after other.told = subst Q (steady.0.same s t alike) (subst P counted two.0.steps) in
-    let first = line-once law (s.lines + 1) (part.line s) s point.after t other.after point.told other.told alike as_far one.0.steps same in
+    let P : ℕ → Type 0 = λ n. LineSteps (n + 1) (request_of (part.line t)) t other.after other.told in
+    let Q : ScriptLine → Type 0 = λ line. LineSteps (s.lines + 1) (request_of line) t other.after other.told in
+    let same : LineSteps (s.lines + 1) (request_of (part.line s)) t other.after other.told = subst Q (steady.0.same s t alike) (subst P counted two.0.steps) in
+    let first = line-once law (s.lines + 1) (request_of (part.line s)) s point.after t other.after point.told other.told alike as_far one.0.steps same in
     let later = play-once law point.after other.after parts points others steady.1 first.alike one.1 two.1 in
     record {
       alike = later.alike;

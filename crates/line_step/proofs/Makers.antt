@@ -2,13 +2,7 @@
 use Rattle.std.proofs.Common.{◌≡◌, ◌≢◌, ◌+◌, ◌<◌, ◌≤◌, ◌⊎◌, inl, inr, ℕ, zero, suc, List, [], ◌∷◌, ◌++◌, Some, length, slice_get, slice_set, sym, subst, ◌∙◌, arith}
 use Rattle.board_record.specs.Maker.{made_id}
 use Rattle.node_core.specs.Node.{NodeState}
-
--- a machine with this number made the id, at a count that it has used
-pub record IsMadeBy (machine used id : ℕ) : Type 0 where
-  pub count : ℕ
-  pub counted : count ≤ used
-  pub small : count < 281474976710656
-  pub is : id ≡ made_id machine count
+use Rattle.line_step.specs.Made.{IsMadeBy, IsOld}
 
 -- each machine's maker has its number
 pub record IsNumbered (number : ℕ) (node : NodeState) : Type 0 where
@@ -17,11 +11,6 @@ pub record IsNumbered (number : ℕ) (node : NodeState) : Type 0 where
 abbrev pub AreNumbered : ℕ → List NodeState → Type 0
 AreNumbered number [] = Unit {0}
 AreNumbered number (node ∷ nodes) = IsNumbered number node × AreNumbered (number + 1) nodes
-
--- some machine made the id
-abbrev pub IsOld : ℕ → List NodeState → ℕ → Type 0
-IsOld number [] id = ⊥
-IsOld number (node ∷ nodes) id = IsMadeBy number node.maker.used id ⊎ IsOld (number + 1) nodes id
 
 -- an id that a machine with this number or a later one made
 pub record IsBeyond (number id : ℕ) : Type 0 where

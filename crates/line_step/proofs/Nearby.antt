@@ -142,6 +142,8 @@ act_near has second machine (acts.Deed deed) world at = counted_near machine dee
 act_near has second machine (acts.Inserts id) world at = place_near machine _ world at.counted at.within
 act_near has second machine (acts.Removes id) world at = place_near machine _ world at.counted at.within
 act_near has second machine (acts.Replaces old new) world at = place_near machine _ world at.counted at.within
+act_near has second machine (acts.Gives id to) world at = place_near machine _ world at.counted at.within
+act_near has second machine (acts.Gets id) world at = place_near machine _ world at.counted at.within
 act_near has second machine act world at = refl
 
 -- ---- all acts

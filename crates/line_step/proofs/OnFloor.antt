@@ -81,6 +81,8 @@ quiet-act second machine (acts.Drive side on) world quiet = drives-same machine 
 quiet-act second machine (acts.Inserts id) world quiet = absurd quiet
 quiet-act second machine (acts.Removes id) world quiet = absurd quiet
 quiet-act second machine (acts.Replaces was now) world quiet = absurd quiet
+quiet-act second machine (acts.Gives id to) world quiet = absurd quiet
+quiet-act second machine (acts.Gets id) world quiet = absurd quiet
 quiet-act second machine (acts.Answered query order) world quiet =
     same-still world.floor world.floor refl
 quiet-act second machine _ world quiet = same-still world.floor world.floor refl
@@ -132,6 +134,8 @@ act-still : (machine : ℕ) (act : Act) → IsQuiet act → IsStill (happenings.
 act-still machine (acts.Inserts id) quiet = absurd quiet
 act-still machine (acts.Removes id) quiet = absurd quiet
 act-still machine (acts.Replaces was now) quiet = absurd quiet
+act-still machine (acts.Gives id to) quiet = absurd quiet
+act-still machine (acts.Gets id) quiet = absurd quiet
 act-still machine (acts.Tells message) quiet =
     record { change = λ boards. (boards, refl, refl); made = refl; handled = refl }
 act-still machine (acts.Answered query order) quiet =
@@ -152,6 +156,8 @@ told-still second machine (acts.Drive side on) world quiet = still-none
 told-still second machine (acts.Inserts id) world quiet = absurd quiet
 told-still second machine (acts.Removes id) world quiet = absurd quiet
 told-still second machine (acts.Replaces was now) world quiet = absurd quiet
+told-still second machine (acts.Gives id to) world quiet = absurd quiet
+told-still second machine (acts.Gets id) world quiet = absurd quiet
 told-still second machine (acts.Tells message) world quiet =
     act-still machine (acts.Tells message) tt
 told-still second machine (acts.Answered query order) world quiet =

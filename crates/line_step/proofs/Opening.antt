@@ -53,7 +53,7 @@ use Rattle.node_core.specs.Connect.{if_open, opens, meets_second, notices, ticks
 use Rattle.node_core.specs.Boards.{is_kept, without, with_instead, with_mark, faults, wills, with_sub, takes_sub}
 use Rattle.node_core.specs.Reads.{all_read}
 use Rattle.node_core.specs.Announces.{announces}
-use Rattle.node_core.specs.Event.{Event, Nothing, Connect, Accepted, Second, Words, Notice, Tick, Shutdown, Fault, Will, Level, Insert, Remove, Replace, Mark, Sub, Forecast, Query, Supervised, event_of, event_did, with_new}
+use Rattle.node_core.specs.Event.{Event, Nothing, Connect, Accepted, Second, Words, Notice, Tick, Shutdown, Fault, Will, Level, Insert, Remove, Replace, Mark, Sub, Forecast, Query, Supervised, Gives, Gets, event_of, event_did, with_new}
 use Rattle.node_core.specs.Node.{NodeState, desk_of}
 use Rattle.node_core.specs.Step.{Steps, machine_step, plain_step}
 use Rattle.node_core.specs.Supervising.{supervises, watch_of}
@@ -386,6 +386,8 @@ event_meets at desk (Remove id) body = met at (Remove id) body _ (λ o. refl) (l
 event_meets at desk (Replace old new) body = met at (Replace old new) body _ (λ o. refl) (left at body _ (if_kept_leaves at (is_kept old body.kept) body (with_instead old (plain_record new desk.name None) body.kept) (acts.Replaces old new) (λ o. refl)))
 event_meets at desk (Mark id quality) body = met at (Mark id quality) body _ (λ o. refl) (left at body _ (if_kept_leaves at (is_kept id body.kept) body (with_mark id quality body.kept) (acts.Marks id quality) (λ o. refl)))
 event_meets at desk (Sub id sub) body = met at (Sub id sub) body _ (λ o. refl) (left at body _ (if_kept_leaves at (takes_sub id sub body.kept) body (with_sub id sub body.kept) (acts.Subs id sub.pos) (λ o. refl)))
+event_meets at desk (Gives id to) body = met at (Gives id to) body _ (λ o. refl) (left at body _ (if_kept_leaves at (is_kept id body.kept) body (without id body.kept) (acts.Gives id to) (λ o. refl)))
+event_meets at desk (Gets board) body = met at (Gets board) body _ (λ o. refl) (left at body _ (kept_leaves at body (body.kept ++ board ∷ []) (acts.Gets board.id ∷ []) (λ o. refl)))
 event_meets at desk Forecast body = met at Forecast body (forecasts_front desk body) (λ o. refl) (left at body (forecasts_front desk body) (forecasts_leave at desk body))
 event_meets at desk (Query barcode) body = met at (Query barcode) body (asks_for desk barcode body) (λ o. refl) (left at body (asks_for desk barcode body) (asks_leave at desk barcode body))
 event_meets at desk (Supervised what) body =

@@ -9,17 +9,24 @@ use Rattle.line_report.specs.Texts.{entry}
 use Rattle.line_report.specs.declared.happening.Happening.{Happening}
 use Rattle.line_step.specs.Lies.{has_lie}
 use Rattle.line_step.specs.State.{LineState, no_line}
+use Rattle.line_step.specs.Requests.{request_of}
+use Rattle.line_step.specs.Tracks.{ComesFromElsewhere}
 use Rattle.line_step.specs.Runs.{IsRun, IsShort, Point, all_told, state_behind, told_text}
 use Rattle.line_step.specs.Parts.{IsPlay, IsScriptRun, Part, ScriptLineSteps, count_behind, lines_played, parts_of, script_parts}
 use Rattle.line_step.proofs.Running.{behind-append, told-append}
 use Rattle.line_step.proofs.Vouching.{script_remembered}
+
+-- no line of a script has a board come from another lane
+script-comes : (line : ScriptLine) (s : LineState) → ComesFromElsewhere (request_of line) s
+script-comes lines.Blank s = tt
+script-comes _ s = tt
 
 -- A PLAY IS A RUN of the lines that its parts are
 pub play-run : (s : LineState) (parts : List Part) (points : List Point) → IsPlay s parts points → IsRun s (lines_played s parts points) points
 play-run s [] [] play = tt
 play-run s [] (point ∷ points) play = absurd play
 play-run s (part ∷ parts) [] play = absurd play
-play-run s (part ∷ parts) (point ∷ points) play = (play.0.steps, play-run point.after parts points play.1)
+play-run s (part ∷ parts) (point ∷ points) play = ((play.0.steps, script-comes (part.line s) s), play-run point.after parts points play.1)
 
 -- ---- one behind another
 

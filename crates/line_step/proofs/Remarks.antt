@@ -54,7 +54,7 @@ pub all_pass : {Kind : Happening → Type 0} {P : List Happening → Type 0} (to
 all_pass [] passes all = passes.none
 all_pass (h ∷ told) passes all = passes.both (h ∷ []) told (passes.one h all.0) (all_pass told passes all.1)
 
-is_no_act : (h : Happening) → IsRemark h → IsNoAct h
+pub is_no_act : (h : Happening) → IsRemark h → IsNoAct h
 is_no_act (happenings.Done machine act) is = is
 is_no_act _ is = tt
 

@@ -51,7 +51,7 @@ use Rattle.node_core.specs.Own.{Own, own_by, own_of, ids_of, id_of}
 use Rattle.node_core.proofs.KeptIds.{ids_changed}
 use Rattle.standings.specs.Marks.{has_id, is_held}
 use Rattle.line_step.specs.Named.{ids_of_act}
-use Rattle.step_rules.specs.Causes.{ByHand, Cause, hand_inserts, hand_removes, hand_replaces, hand_changes}
+use Rattle.step_rules.specs.Causes.{ByHand, Cause, hand_gets, hand_gives, hand_inserts, hand_removes, hand_replaces, hand_changes}
 use Rattle.step_rules.specs.Made.{Made, made_act, made_both, made_breach, made_by_hand, made_close, made_intake, made_none, made_notice, made_outlet, made_passed, made_row, made_start, made_will, made_word}
 use Rattle.step_rules.proofs.Inputs.{IsNoStart, no_start}
 use Rattle.step_rules.proofs.Steps.{step_made}
@@ -260,6 +260,13 @@ hand_spares {desk = desk} id (hand_replaces {old = old} {new = new} {body = body
     by_hand id body (with_instead old board body.kept) (acts.Replaces old new) (λ none.
     let two = or_parts (old == id) (has_id id (new ∷ [])) none in
     has-instead id old board body.kept two.0 (another new id [] two.1))
+hand_spares id (hand_gives {id = other} {to = to} {body = body} is) =
+    by_hand id body (without other body.kept) (acts.Gives other to) (λ none.
+    has-without id other body.kept (another other id [] none))
+hand_spares id (hand_gets {board = board} {body = body}) =
+    by_hand id body (body.kept ++ board ∷ []) (acts.Gets board.id) (λ none.
+    ap (has_id id) (behind_ids body.kept board)
+    ∙ at_back board.id id (ids_of body.kept) (another board.id id [] none))
 hand_spares id (hand_changes {body = body} {id = other} {change = change} {act = act} deed) =
     by_hand id body (with_changed other change body.kept) act (λ _.
     ap (has_id id) (sym (ids_changed other change body.kept (changes_leave deed))))

@@ -19,9 +19,9 @@ use Rattle.line_step.specs.Runs.{Point, IsRun, state_behind}
 use Rattle.line_step.specs.Parts.{IsPlay, IsScriptRun, Part, script_parts}
 use Rattle.line_step.specs.Lies.{has_lie, is_lie, tells_lie}
 use Rattle.line_step.proofs.Remarks.{AreRemarks, IsRemark, Passes, acts_pass, all_pass, standings_remarks}
-use Rattle.line_step.proofs.Requests.{Request, added_told, request_of}
+use Rattle.line_step.specs.Requests.{Request, added_told, request_of}
 use Rattle.line_step.proofs.Effects.{Effect, added_remarks, becomes_by, line_effect, spoil_remarks}
-use Rattle.line_step.proofs.Requests as requests
+use Rattle.line_step.specs.Requests as requests
 use Rattle.line_step.proofs.Effects as effects
 
 -- ---- what is told without a lie
@@ -66,8 +66,8 @@ unseen-told number which side before (Some line) is = rw is refl
 
 remembers : (number : ℕ) (request : Request) (before after : LineState) (told : List Happening) → Effect number before after told request → Remembers before after told
 remembers number request before after told (effects.rests _ what remarks b) = becomes_by (Remembers before) b (still before before what refl remarks)
-remembers number request before after told (effects.adds is_bridge capacity used may b) =
-    becomes_by (Remembers before) b (still before (one_more is_bridge capacity used before) (added_told is_bridge capacity before) refl (added_remarks is_bridge capacity before))
+remembers number request before after told (effects.adds lane is_bridge capacity used may b) =
+    becomes_by (Remembers before) b (still before (one_more lane is_bridge capacity used before) (added_told is_bridge capacity before) refl (added_remarks is_bridge capacity before))
 remembers number request before after told (effects.steps which input given may did) =
     let one = machine number which input before after told did in
     honest before after told one.0 one.1
@@ -95,7 +95,7 @@ IsHonest after told = tells_lie told ≡ false
 
 effect-honest : (number : ℕ) (request : Request) (before after : LineState) (told : List Happening) → IsNoLie request → Effect number before after told request → tells_lie told ≡ false
 effect-honest number request before after told calm (effects.rests _ what remarks b) = becomes_by IsHonest b (all_pass what remarks-honest remarks)
-effect-honest number request before after told calm (effects.adds is_bridge capacity used may b) = becomes_by IsHonest b (all_pass (added_told is_bridge capacity before) remarks-honest (added_remarks is_bridge capacity before))
+effect-honest number request before after told calm (effects.adds lane is_bridge capacity used may b) = becomes_by IsHonest b (all_pass (added_told is_bridge capacity before) remarks-honest (added_remarks is_bridge capacity before))
 effect-honest number request before after told calm (effects.steps which input given may did) = (machine number which input before after told did).1
 effect-honest number request before after told calm (effects.connects which may did) =
     ap tells_lie did.told_is ∙ lie-join did.earlier did.later (machine number which _ _ did.between did.earlier did.first).1 (machine number _ _ did.between after did.later did.second).1
@@ -110,15 +110,15 @@ lie-behind : (a b : List Happening) → tells_lie b ≡ false → tells_lie (a +
 lie-behind [] b none = none
 lie-behind (x ∷ xs) b none = ap (λ t. is_lie x || t) (lie-behind xs b none)
 
-steps-remember : (number : ℕ) (line : ScriptLine) (before after : LineState) (told : List Happening) → LineSteps number line before after told → Remembers before after told
-steps-remember number line before after told steps =
-    let done = remembers number (request_of line) before steps.next steps.done (line_effect number line before steps.next steps.done steps.does) in
+steps-remember : (number : ℕ) (request : Request) (before after : LineState) (told : List Happening) → LineSteps number request before after told → Remembers before after told
+steps-remember number request before after told steps =
+    let done = remembers number request before steps.next steps.done (line_effect number request before steps.next steps.done steps.does) in
     let same = lie-behind steps.done (standings_told before steps.next) (all_pass (standings_told before steps.next) remarks-honest (standings_remarks before steps.next)) in
     rw (steps.after_is, steps.told_is, same) done
 
-pub steps-honest : (number : ℕ) (line : ScriptLine) (before after : LineState) (told : List Happening) → IsNoLie (request_of line) → LineSteps number line before after told → tells_lie told ≡ false
-steps-honest number line before after told calm steps =
-    let done = effect-honest number (request_of line) before steps.next steps.done calm (line_effect number line before steps.next steps.done steps.does) in
+pub steps-honest : (number : ℕ) (request : Request) (before after : LineState) (told : List Happening) → IsNoLie request → LineSteps number request before after told → tells_lie told ≡ false
+steps-honest number request before after told calm steps =
+    let done = effect-honest number request before steps.next steps.done calm (line_effect number request before steps.next steps.done steps.does) in
     ap tells_lie steps.told_is ∙ lie-join steps.done (standings_told before steps.next) done (all_pass (standings_told before steps.next) remarks-honest (standings_remarks before steps.next))
 
 -- nothing is remembered behind a line that was not before it
@@ -127,27 +127,27 @@ none_of None is = refl
 none_of (Some line) is = cc
 
 -- where somebody vouches for a line, somebody did before its last line, which told no lie
-record Vouches (before : LineState) (told : List Happening) : Type 0 where
-  vouched : before.unvouched ≡ None
-  unlied : tells_lie told ≡ false
+pub record Vouches (before : LineState) (told : List Happening) : Type 0 where
+  pub vouched : before.unvouched ≡ None
+  pub unlied : tells_lie told ≡ false
 
-steps-vouch : (number : ℕ) (line : ScriptLine) (before after : LineState) (told : List Happening) → LineSteps number line before after told → after.unvouched ≡ None → Vouches before told
-steps-vouch number line before after told steps none =
-    let parts = or_parts (is_some before.unvouched) (tells_lie told) (sym (steps-remember number line before after told steps) ∙ ap is_some none) in
+steps-vouch : (number : ℕ) (request : Request) (before after : LineState) (told : List Happening) → LineSteps number request before after told → after.unvouched ≡ None → Vouches before told
+steps-vouch number request before after told steps none =
+    let parts = or_parts (is_some before.unvouched) (tells_lie told) (sym (steps-remember number request before after told steps) ∙ ap is_some none) in
     record { vouched = none_of before.unvouched parts.0; unlied = parts.1 }
 
-pub unvouched-before : (number : ℕ) (line : ScriptLine) (before after : LineState) (told : List Happening) → LineSteps number line before after told → after.unvouched ≡ None → before.unvouched ≡ None
-unvouched-before number line before after told steps none = (steps-vouch number line before after told steps none).vouched
+pub unvouched-before : (number : ℕ) (request : Request) (before after : LineState) (told : List Happening) → LineSteps number request before after told → after.unvouched ≡ None → before.unvouched ≡ None
+unvouched-before number request before after told steps none = (steps-vouch number request before after told steps none).vouched
 
-track-vouches : (number : ℕ) (line : TrackLine) (before after : LineState) (told : List Happening) → TrackSteps number line before after told → after.unvouched ≡ None → Vouches before told
-track-vouches number (own_line line) before after told steps none = steps-vouch number line before after told steps none
+pub track-vouches : (number : ℕ) (line : TrackLine) (before after : LineState) (told : List Happening) → TrackSteps number line before after told → after.unvouched ≡ None → Vouches before told
+track-vouches number (own_line request) before after told steps none = steps-vouch number request before after told steps.0 none
 track-vouches number other_line before after told steps none = record { vouched = steps.0.vouched none; unlied = ap tells_lie steps.1 }
 
 -- ---- over a run
 
 record RunVouches (s : LineState) (points : List Point) : Type 0 where
   vouched : s.unvouched ≡ None
-  unlied : has_lie points ≡ false
+  pub unlied : has_lie points ≡ false
 
 run-vouches : (s : LineState) (asked : List TrackLine) (points : List Point) → IsRun s asked points → (state_behind s points).unvouched ≡ None → RunVouches s points
 run-vouches s [] [] run none = record { vouched = none; unlied = refl }
@@ -170,7 +170,7 @@ play-remembers s [] (point ∷ points) play = absurd play
 play-remembers s (part ∷ parts) [] play = absurd play
 play-remembers s (part ∷ parts) (point ∷ points) play =
     play-remembers point.after parts points play.1
-    ∙ ap (λ t. t || has_lie points) (steps-remember (s.lines + 1) (part.line s) s point.after point.told play.0.steps)
+    ∙ ap (λ t. t || has_lie points) (steps-remember (s.lines + 1) (request_of (part.line s)) s point.after point.told play.0.steps)
     ∙ or_assoc (is_some s.unvouched) (tells_lie point.told) (has_lie points)
 
 -- A LINE IS UNVOUCHED exactly where one of the lines of its script told what was not so, or let a board come or go unseen

@@ -129,6 +129,16 @@ act_did second machine (acts.Replaces old new) world =
       world = with_floor (changes machine old new world.floor) world;
       told = told_of_act machine (acts.Replaces old new);
     }
+act_did second machine (acts.Gives id to) world =
+    record {
+      world = with_floor (takes_off machine id world.floor) world;
+      told = told_of_act machine (acts.Gives id to);
+    }
+act_did second machine (acts.Gets id) world =
+    record {
+      world = with_floor (lays machine id world.floor) world;
+      told = told_of_act machine (acts.Gets id);
+    }
 act_did second machine act world = record { world = world; told = told_of_act machine act }
 
 -- the acts of a step in their order

@@ -20,9 +20,10 @@ abbrev pub boards_of : LineState → List Board
 boards_of s = boards_on s.world.floor
 
 -- ---- IDS STAY: an insertion adds a board with its id, a removal and a done `take` take one away, a
--- replacement puts another id for one in its place; a board that comes out of a bridge's segment
--- unseen has no id, one that goes into it unseen is taken away; and nothing else that happens changes
--- a board
+-- replacement puts another id for one in its place; a board that goes to another lane goes from this
+-- track, and one that comes from there is added with its id; a board that comes out of a bridge's
+-- segment unseen has no id, one that goes into it unseen is taken away; and nothing else that happens
+-- changes a board
 
 abbrev pub ChangesBoards : Happening → List Board → List Board → Type 0
 ChangesBoards (happenings.Done machine (acts.Inserts id)) old new =
@@ -30,6 +31,10 @@ ChangesBoards (happenings.Done machine (acts.Inserts id)) old new =
 ChangesBoards (happenings.Done machine (acts.Removes id)) old new =
     (board : Board) × (has_id id board ≡ true) × LosesBoard old new board
 ChangesBoards (happenings.Done machine (acts.Replaces was now)) old new = ChangesId was now old new
+ChangesBoards (happenings.Done machine (acts.Gives id to)) old new =
+    (board : Board) × (has_id id board ≡ true) × LosesBoard old new board
+ChangesBoards (happenings.Done machine (acts.Gets id)) old new =
+    LosesBoard new old (record { id = Some id })
 ChangesBoards (happenings.Moved gap moves.Take) old new =
     (board : Board) × LosesBoard old new board
 ChangesBoards (happenings.Unseen machine Entry) old new = LosesBoard new old (record { id = None })
@@ -58,6 +63,8 @@ abbrev pub handled_in : Happening → List ℕ
 handled_in (happenings.Done machine (acts.Inserts id)) = id ∷ []
 handled_in (happenings.Done machine (acts.Removes id)) = id ∷ []
 handled_in (happenings.Done machine (acts.Replaces was now)) = was ∷ now ∷ []
+handled_in (happenings.Done machine (acts.Gives id to)) = id ∷ []
+handled_in (happenings.Done machine (acts.Gets id)) = id ∷ []
 handled_in _ = []
 
 abbrev pub handled_by : List Happening → List ℕ

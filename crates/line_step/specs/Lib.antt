@@ -8,7 +8,10 @@ pub mod Acts
 pub mod Steps
 pub mod Reasons
 pub mod Shown
+pub mod Requests
+pub mod Homes
 pub mod Lines
+pub mod Made
 pub mod Views
 pub mod Tracks
 pub mod Runs

@@ -1,15 +1,12 @@
--- THE LINE STEP: what a line of the script does, where no reason stands against it.
-use Rattle.std.specs.Prelude.{◌≡◌, ℕ, ◌+◌, ◌-◌, true, false, List, [], ◌∷◌, ◌++◌, ◌≤◌, Option, Some, None, Result, Ok, Err, drop, length}
+-- THE LINE STEP: what is done of a request, where no reason stands against it.
+use Rattle.std.specs.Prelude.{◌≡◌, ℕ, ◌+◌, ◌-◌, List, [], ◌∷◌, ◌++◌, ◌≤◌, Option, Some, None, Result, Ok, Err, drop}
 use Rattle.std.specs.Borrow.{Bor}
 use Rattle.board_record.specs.declared.sensed.Sensed.{Sensed}
 use Rattle.line_base.specs.declared.states.Side.{Side}
 use Rattle.line_base.specs.declared.states.Side.TheVariants.{Entry, Exit}
-use Rattle.line_script.specs.declared.line.ScriptLine.{ScriptLine}
-use Rattle.line_script.specs.declared.line.ScriptLine.TheVariants as lines
 use Rattle.line_world.specs.FloorPlan.{FloorPlan, machine_at, with_boards, with_unread}
 use Rattle.line_world.specs.Moves.{floor_move}
 use Rattle.line_world.specs.declared.moves.Move.{Move}
-use Rattle.line_world.specs.declared.moves.Move.TheVariants as moves
 use Rattle.line_world.specs.declared.moves.MoveNo.{MoveNo}
 use Rattle.line_link.specs.Link.{after_connect, after_flow, after_spoil, connected_of, cut, spoil_sent}
 use Rattle.line_link.specs.declared.link.Connected.{Connected}
@@ -20,7 +17,9 @@ use Rattle.line_step.specs.World.{end_of, link_at, link_of, piece_for, with_floo
 use Rattle.line_step.specs.State.{LineState, one_more, with_world}
 use Rattle.line_step.specs.Acts.{cut_told}
 use Rattle.line_step.specs.Steps.{MachineSteps, StepsTwice}
-use Rattle.line_step.specs.Reasons.{May, may_add, may_answer, may_connect, may_cut, may_flow, may_give, may_lie, may_notice, may_remove, may_replace, may_sense, may_spoil, may_stop, may_unseen}
+use Rattle.line_step.specs.Reasons.{May, may_add, may_connect, may_cut, may_flow, may_lie, may_spoil, may_stop, may_unseen}
+use Rattle.line_step.specs.Requests.{Request, added_told, may_get}
+use Rattle.line_step.specs.Requests as requests
 use Rattle.line_step.specs.Shown.{shown, standings_told}
 use Rattle.line_report.specs.declared.happening.Happening.{Happening}
 use Rattle.line_report.specs.declared.happening.Happening.TheVariants as happenings
@@ -137,103 +136,43 @@ unseen number machine side s = record s {
   unvouched = first_of number s.unvouched;
 }
 
--- ---- the forms: of a stop this is what it tells itself, and what it does behind that are lines of
--- their own (specs/Parts)
+-- ---- what each request does: of a stop this is what it tells itself, and what it does behind that
+-- are requests of their own (specs/Parts)
 
-abbrev pub LineDoes : ℕ → ScriptLine → LineState → LineState → List Happening → Type 0
-LineDoes number lines.Blank before after told = Becomes before [] after told
-LineDoes number (lines.Machine capacity used) before after told =
+abbrev pub LineDoes : ℕ → Request → LineState → LineState → List Happening → Type 0
+LineDoes number requests.nothing before after told = Becomes before [] after told
+LineDoes number requests.shows before after told = Becomes before (shown before) after told
+LineDoes number (requests.adds lane is_bridge capacity used) before after told =
     Unless (may_add before) before after told
-    (Becomes (one_more false capacity used before)
-    (happenings.Machine (length before.machines + 1) capacity ∷ []) after told)
-LineDoes number (lines.Bridge capacity used) before after told =
-    Unless (may_add before) before after told
-    (Becomes (one_more true capacity used before)
-    (happenings.Bridge (length before.machines + 1) capacity ∷ []) after told)
-LineDoes number (lines.Insert machine barcode) before after told =
-    Unless (may_give machine (inputs.Insert barcode) before) before after told
-    (MachineSteps number machine (inputs.Insert barcode) before after told)
-LineDoes number (lines.Remove machine id) before after told =
-    Unless (may_remove machine id before) before after told
-    (MachineSteps number machine (inputs.Remove id) before after told)
-LineDoes number (lines.Replace machine id) before after told =
-    Unless (may_replace machine id before) before after told
-    (MachineSteps number machine (inputs.Replace id) before after told)
-LineDoes number (lines.Mark machine id quality) before after told =
-    Unless (may_give machine (inputs.Mark id quality) before) before after told
-    (MachineSteps number machine (inputs.Mark id quality) before after told)
-LineDoes number (lines.Sub machine id place barcode) before after told =
-    Unless (may_give machine (inputs.Sub id place barcode) before) before after told
-    (MachineSteps number machine (inputs.Sub id place barcode) before after told)
-LineDoes number (lines.Hold machine side) before after told =
-    Unless (may_give machine (inputs.Will side false) before) before after told
-    (MachineSteps number machine (inputs.Will side false) before after told)
-LineDoes number (lines.Go machine side) before after told =
-    Unless (may_give machine (inputs.Will side true) before) before after told
-    (MachineSteps number machine (inputs.Will side true) before after told)
-LineDoes number (lines.Signal machine line on) before after told =
-    Unless (may_give machine (inputs.Level line on) before) before after told
-    (MachineSteps number machine (inputs.Level line on) before after told)
-LineDoes number (lines.Connect machine) before after told =
+    (Becomes (one_more lane is_bridge capacity used before) (added_told is_bridge capacity before)
+    after told)
+LineDoes number (requests.gives machine input) before after told =
+    Unless (may_get machine input before) before after told
+    (MachineSteps number machine input before after told)
+LineDoes number (requests.connects machine) before after told =
     Unless (may_connect machine before) before after told
     (Connects number machine before after told)
-LineDoes number (lines.Flow machine side count) before after told =
+LineDoes number (requests.flows machine side count) before after told =
     Unless (may_flow machine side before) before after told
     (Flows number machine side count before after told)
-LineDoes number (lines.Notice machine side) before after told =
-    Unless (may_notice machine side before) before after told
-    (MachineSteps number machine (inputs.Notice side) before after told)
-LineDoes number (lines.Cut gap) before after told =
+LineDoes number (requests.cuts gap) before after told =
     Unless (may_cut gap before) before after told
     (Becomes (cut_in gap before) (happenings.Cut gap ∷ []) after told)
-LineDoes number (lines.Stop machine) before after told =
+LineDoes number (requests.stops machine) before after told =
     Unless (may_stop machine before) before after told
     (Becomes before (happenings.Stop machine ∷ []) after told)
-LineDoes number (lines.Spoil machine side) before after told =
+LineDoes number (requests.spoils machine side) before after told =
     Unless (may_spoil machine side before) before after told
     (Becomes (spoiled machine side before) (spoil_told machine side before) after told)
-LineDoes number (lines.Shutdown machine) before after told =
-    Unless (may_give machine inputs.Shutdown before) before after told
-    (MachineSteps number machine inputs.Shutdown before after told)
-LineDoes number (lines.Tick machine) before after told =
-    Unless (may_give machine inputs.Tick before) before after told
-    (MachineSteps number machine inputs.Tick before after told)
-LineDoes number (lines.Fault machine side) before after told =
-    Unless (may_give machine (inputs.Fault side) before) before after told
-    (MachineSteps number machine (inputs.Fault side) before after told)
-LineDoes number (lines.Sense machine) before after told =
-    Unless (may_sense machine before) before after told
-    (MachineSteps number machine inputs.Nothing before after told)
-LineDoes number (lines.Begin gap) before after told = Moves gap moves.Begin before after told
-LineDoes number (lines.Left gap) before after told = Moves gap moves.Left before after told
-LineDoes number (lines.Enter gap) before after told = Moves gap moves.Enter before after told
-LineDoes number (lines.Back gap) before after told = Moves gap moves.Back before after told
-LineDoes number (lines.HandIn gap) before after told = Moves gap moves.HandIn before after told
-LineDoes number (lines.Take gap) before after told = Moves gap moves.Take before after told
-LineDoes number (lines.Lie machine sensed) before after told =
+LineDoes number (requests.moves_on gap step) before after told = Moves gap step before after told
+LineDoes number (requests.lies machine sensed) before after told =
     Unless (may_lie machine sensed.side before) before after told
     (Becomes (lied number machine sensed before)
     (happenings.Lie machine sensed ∷ unvouched_told before.unvouched) after told)
-LineDoes number (lines.Unseen machine side) before after told =
+LineDoes number (requests.unsees machine side) before after told =
     Unless (may_unseen machine side before) before after told
     (Becomes (unseen number machine side before)
     (happenings.Unseen machine side ∷ unvouched_told before.unvouched) after told)
-LineDoes number lines.Show before after told = Becomes before (shown before) after told
-LineDoes number (lines.Forecast machine) before after told =
-    Unless (may_give machine inputs.Forecast before) before after told
-    (MachineSteps number machine inputs.Forecast before after told)
-LineDoes number (lines.Query machine barcode) before after told =
-    Unless (may_give machine (inputs.Query barcode) before) before after told
-    (MachineSteps number machine (inputs.Query barcode) before after told)
-LineDoes number (lines.Supervise machine) before after told =
-    Unless (may_give machine (inputs.Supervise true) before) before after told
-    (MachineSteps number machine (inputs.Supervise true) before after told)
-LineDoes number (lines.Ask machine question) before after told =
-    Unless (may_give machine (inputs.Ask question) before) before after told
-    (MachineSteps number machine (inputs.Ask question) before after told)
-LineDoes number (lines.Answer machine query order) before after told =
-    Unless (may_answer machine query order before) before after told
-    (MachineSteps number machine (inputs.Answer query order) before after told)
 
 -- ---- and the standings that changed
 
@@ -242,13 +181,13 @@ pub record Counts (old new : ℕ) : Type 0 where
   pub least : old ≤ new
   pub most : new ≤ old + 1
 
--- what is done of a line of the script: the state after it, counted, and what it did with the
--- standings that it changed
-pub record LineSteps (number : ℕ) (line : ScriptLine) (before after : LineState)
+-- what is done of a request: the state after it, counted, and what it did with the standings that
+-- it changed
+pub record LineSteps (number : ℕ) (request : Request) (before after : LineState)
     (told : List Happening) : Type 0 where
   pub next : LineState
   pub done : List Happening
-  pub does : LineDoes number line before next done
+  pub does : LineDoes number request before next done
   pub lines : ℕ
   pub counts : Counts next.lines lines
   pub after_is : after ≡ record next { lines = lines }

@@ -24,6 +24,8 @@ ids_of_act (acts.Deed deed) = id_of_deed deed ∷ []
 ids_of_act (acts.Inserts id) = id ∷ []
 ids_of_act (acts.Removes id) = id ∷ []
 ids_of_act (acts.Replaces old new) = old ∷ new ∷ []
+ids_of_act (acts.Gives id to) = id ∷ []
+ids_of_act (acts.Gets id) = id ∷ []
 ids_of_act _ = []
 
 abbrev pub ids_of_happening : Happening → List ℕ

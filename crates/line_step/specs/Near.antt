@@ -80,6 +80,15 @@ near_did has second (acts.Removes id) near =
     record near { place = record near.place { boards = without_board id near.place.boards } }
 near_did has second (acts.Replaces old new) near =
     record near { place = record near.place { boards = with_new_id old new near.place.boards } }
+near_did has second (acts.Gives id to) near =
+    record near { place = record near.place { boards = without_board id near.place.boards } }
+near_did has second (acts.Gets id) near =
+    record near {
+      place = record near.place {
+        boards = near.place.boards
+            ++ record { id = Some id } ∷ [];
+      };
+    }
 near_did has second act near = near
 
 abbrev pub nears_did : (Side → Bool) → Bool → List Act → Near → Near

@@ -20,7 +20,7 @@ pub record Between : Type 0 where
 
 -- beyond the ends of a line: a machine without boards and connections
 abbrev pub no_node : NodeState
-no_node = new_node (profile_of false 0 1 0)
+no_node = new_node (profile_of 1 false 0 1 0)
 
 abbrev pub node_at : LineState → ℕ → NodeState
 node_at s zero = no_node

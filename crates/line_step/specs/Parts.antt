@@ -7,6 +7,7 @@ use Rattle.line_script.specs.declared.line.ScriptLine.{ScriptLine}
 use Rattle.line_script.specs.declared.line.ScriptLine.TheVariants as lines
 use Rattle.line_step.specs.State.{LineState}
 use Rattle.line_step.specs.Reasons.{May, may_cut, may_notice}
+use Rattle.line_step.specs.Requests.{request_of}
 use Rattle.line_step.specs.Lines.{LineSteps}
 use Rattle.line_step.specs.Tracks.{TrackLine, own_line}
 use Rattle.line_step.specs.Runs.{Point, all_told, state_behind}
@@ -58,7 +59,8 @@ count_behind false lines = lines
 
 -- a part is a line step under the number that is due
 pub record PartSteps (part : Part) (before : LineState) (point : Point) : Type 0 where
-  pub steps : LineSteps (before.lines + 1) (part.line before) before point.after point.told
+  pub steps : LineSteps (before.lines + 1) (request_of (part.line before)) before point.after
+      point.told
   pub counted : point.after.lines ≡ count_behind part.ends before.lines
 
 -- these are the points of parts, one after the other
@@ -73,12 +75,12 @@ IsPlay s (part ∷ parts) (point ∷ points) =
 abbrev pub IsScriptRun : LineState → List ScriptLine → List Point → Type 0
 IsScriptRun s asked points = IsPlay s (script_parts asked) points
 
--- the lines that parts were, each in view of the state before it
+-- the lines that parts were, each by what it asked for in view of the state before it
 abbrev pub lines_played : LineState → List Part → List Point → List TrackLine
 lines_played s [] points = []
 lines_played s (part ∷ parts) [] = []
 lines_played s (part ∷ parts) (point ∷ points) =
-    own_line (part.line s) ∷ lines_played point.after parts points
+    own_line (request_of (part.line s)) ∷ lines_played point.after parts points
 
 -- ---- ONE LINE OF A SCRIPT: what its parts did, and all that they told
 pub record ScriptLineSteps (line : ScriptLine) (before after : LineState)

@@ -12,7 +12,9 @@ use Rattle.node_core.specs.declared.input.Input.{Input}
 use Rattle.node_core.specs.declared.input.Input.TheVariants as inputs
 use Rattle.node_core.specs.declared.input.No.{No}
 use Rattle.node_core.specs.declared.input.No.TheVariants as nos
-use Rattle.node_core.specs.May.{may_of, may_reach}
+use Rattle.handover_out.specs.State.{is_id}
+use Rattle.node_core.specs.Boards.{is_kept}
+use Rattle.node_core.specs.May.{may_get, may_of, may_reach}
 use Rattle.node_core.specs.Node.{NodeState}
 use Rattle.supervisory_core.specs.Orders.{answer_to}
 use Rattle.line_step.specs.World.{WorldParts, end_of, link_at, link_of}
@@ -128,6 +130,20 @@ may_replace machine id s =
     behind_own (may_of node (inputs.Remove id))
     (no_if (not (is_here machine id s.world)) reasons.NotHere
     (behind_own (may_of node (inputs.Replace id)) may_do)))
+
+-- a board goes to another lane of its machine: bridge, not kept, not here, was offered
+abbrev pub may_give_away : ℕ → ℕ → LineState → May
+may_give_away machine id s =
+    if_there (machine_in machine s) (λ node.
+    no_if (is_some node.bridge) (reasons.Node nos.Bridge)
+    (no_if (not (is_kept id node.lane.body.kept)) (reasons.Node nos.NotKept)
+    (no_if (not (is_here machine id s.world)) reasons.NotHere
+    (no_if (is_id node.lane.body.last_offer id) (reasons.Node nos.WasOffered) may_do))))
+
+-- a board comes from another lane of its machine: intake open, full
+abbrev pub may_take_in : ℕ → LineState → May
+may_take_in machine s =
+    if_there (machine_in machine s) (λ node. behind_own (may_get node) may_do)
 
 -- a connection is made: no neighbour, connected, intake unsettled
 abbrev pub may_connect : ℕ → LineState → May

@@ -41,21 +41,22 @@ with_world world s = record s { world = world }
 abbrev pub machine_text : ℕ → List ℕ
 machine_text number = codes "M" ++ decimal number
 
--- what a machine of the line is made from, be it a bridge or none
-abbrev pub profile_of : Bool → ℕ → ℕ → ℕ → NodeProfile
-profile_of is_bridge number capacity used = record {
+-- what a machine of the line is made from, on a lane, be it a bridge or none: its LaneId is the
+-- number of the lane
+abbrev pub profile_of : ℕ → Bool → ℕ → ℕ → ℕ → NodeProfile
+profile_of lane is_bridge number capacity used = record {
   number = number;
   machine = machine_text number;
-  lane = 1;
+  lane = lane;
   capacity = capacity;
   used = used;
   bridge = is_bridge;
 }
 
-abbrev pub one_more : Bool → ℕ → ℕ → LineState → LineState
-one_more is_bridge capacity used s = record s {
+abbrev pub one_more : ℕ → Bool → ℕ → ℕ → LineState → LineState
+one_more lane is_bridge capacity used s = record s {
   machines =
-      s.machines ++ new_node (profile_of is_bridge (length s.machines + 1) capacity used) ∷ [];
+      s.machines ++ new_node (profile_of lane is_bridge (length s.machines + 1) capacity used) ∷ [];
   world = record s.world {
     links = links_more (length s.machines) s.world.links;
     floor = one_machine_more s.world.floor;

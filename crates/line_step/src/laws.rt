@@ -7,7 +7,6 @@ ghost use Rattle.line_base.specs.declared.states.Side.{Side};
 ghost use Rattle.board_record.specs.declared.sensed.Sensed.{Sensed};
 ghost use Rattle.line_link.specs.Link.{connected_of};
 ghost use Rattle.line_report.specs.declared.happening.Happening.{Happening};
-ghost use Rattle.line_script.specs.declared.line.ScriptLine.{ScriptLine};
 ghost use Rattle.node_core.specs.declared.act.Act.{Act};
 ghost use Rattle.node_core.specs.declared.input.Input.{Input};
 ghost use Rattle.node_core.specs.declared.input.Input.TheVariants as inputs;
@@ -23,6 +22,7 @@ ghost use Rattle.line_step.specs.Named.{ids_named};
 ghost use Rattle.line_step.specs.Opened.{open_after, opened_by};
 ghost use Rattle.line_step.specs.Reasons.{may_connect, may_do};
 ghost use Rattle.line_step.specs.Shown.{ascending, standing_told, standings_told};
+ghost use Rattle.line_step.specs.Requests.{Request};
 ghost use Rattle.line_step.specs.State.{LineState, machine_in, marks_in, no_line};
 ghost use Rattle.line_step.specs.Steps.{MachineSteps};
 ghost use Rattle.line_step.specs.Together.{IsLineTogether, is_linked};
@@ -62,15 +62,15 @@ pub fn no_line_is_together()
 /// it is counted, and then.
 #[tactic(auto, using(crate::proofs::Keeps::does_together, crate::proofs::Keeps::lines_stay, crate::proofs::Keeps::keeps_together))]
 pub fn a_line_of_a_script_keeps_it_together()
-    ensures does { (number : ℕ) (line : ScriptLine) (before next : LineState)
-        (told : List Happening) → IsLineTogether before → LineDoes number line before next told
+    ensures does { (number : ℕ) (request : Request) (before next : LineState)
+        (told : List Happening) → IsLineTogether before → LineDoes number request before next told
         → IsLineTogether next }
-    ensures lines { (number : ℕ) (line : ScriptLine) (before next : LineState)
-        (told : List Happening) → LineDoes number line before next told
+    ensures lines { (number : ℕ) (request : Request) (before next : LineState)
+        (told : List Happening) → LineDoes number request before next told
         → next.lines ≡ before.lines }
-    ensures steps { (number : ℕ) (line : ScriptLine) (before after : LineState)
+    ensures steps { (number : ℕ) (request : Request) (before after : LineState)
         (told : List Happening) → number ≡ before.lines + 1 → number ≤ 1000000
-        → IsLineTogether before → LineSteps number line before after told → IsLineTogether after }
+        → IsLineTogether before → LineSteps number request before after told → IsLineTogether after }
 {}
 
 /// Where a machine may connect, its end of the link has no connection yet; and once it has made
@@ -96,8 +96,8 @@ pub fn a_connection_may_be_met()
 /// The marks of an id change only where an act that is told of names the id.
 #[tactic(auto, using(crate::proofs::ChangedStandings::line_stays))]
 pub fn marks_change_where_an_act_names_the_board()
-    ensures { (id number : ℕ) (line : ScriptLine) (before after : LineState)
-        (told : List Happening) → LineDoes number line before after told
+    ensures { (id number : ℕ) (request : Request) (before after : LineState)
+        (told : List Happening) → LineDoes number request before after told
         → has_id id (ids_named told) ≡ false → marks_in before id ≡ marks_in after id }
 {}
 
@@ -105,8 +105,8 @@ pub fn marks_change_where_an_act_names_the_board()
 /// others.
 #[tactic(auto, using(crate::proofs::ChangedStandings::standings_named))]
 pub fn standings_change_where_an_act_names_the_board()
-    ensures { (number : ℕ) (line : ScriptLine) (before after : LineState) (told : List Happening)
-        → LineDoes number line before after told
+    ensures { (number : ℕ) (request : Request) (before after : LineState) (told : List Happening)
+        → LineDoes number request before after told
         → standings_told before after
         ≡ flat_map (λ id. standing_told id (told_of (marks_in before id) (marks_in after id)))
         (ascending (ids_named told)) }

@@ -6,7 +6,6 @@ ghost use Rattle.line_base.specs.declared.states.Side.{Side};
 ghost use Rattle.board_record.specs.declared.sensed.Sensed.{Sensed};
 ghost use Rattle.line_link.specs.Link.{LinkParts};
 ghost use Rattle.line_report.specs.declared.happening.Happening.{Happening};
-ghost use Rattle.line_script.specs.declared.line.ScriptLine.{ScriptLine};
 ghost use Rattle.line_world.specs.FloorPlan.{IsWhole};
 ghost use Rattle.line_world.specs.Moves.{floor_move};
 ghost use Rattle.line_world.specs.declared.moves.Move.{Move};
@@ -16,6 +15,7 @@ ghost use Rattle.line_step.specs.Acts.{acts_did};
 ghost use Rattle.line_step.specs.Lines.{LineDoes, lied, moved, unseen};
 ghost use Rattle.line_step.specs.Near.{HasPlace, near_at, nears_did};
 ghost use Rattle.line_step.specs.Numbered.{ChangesGap, ChangesLink, ChangesMachine};
+ghost use Rattle.line_step.specs.Requests.{Request};
 ghost use Rattle.line_step.specs.State.{LineState, one_more, with_world};
 ghost use Rattle.line_step.specs.Steps.{MachineSteps};
 ghost use Rattle.line_step.specs.World.{WorldParts, with_link};
@@ -38,9 +38,9 @@ pub fn a_step_changes_its_machine_alone()
         → ChangesMachine machine before (lied number machine sensed before) }
     ensures unseen { (number machine : ℕ) (side : Side) (before : LineState)
         → ChangesMachine machine before (unseen number machine side before) }
-    ensures more { (is_bridge : Bool) (capacity used : ℕ) (before : LineState)
+    ensures more { (lane : ℕ) (is_bridge : Bool) (capacity used : ℕ) (before : LineState)
         → ChangesMachine (length before.machines + 1) before
-        (one_more is_bridge capacity used before) }
+        (one_more lane is_bridge capacity used before) }
 {}
 
 /// What the acts of a machine do is done, in their order, to what is at it on the floor and to the
@@ -55,7 +55,7 @@ pub fn acts_reach_what_is_near()
 
 /// Between each two machines there goes on to be a gap.
 pub fn the_floor_stays_whole()
-    ensures { (number : ℕ) (line : ScriptLine) (before next : LineState) (told : List Happening)
-        → IsWhole before.world.floor → LineDoes number line before next told
+    ensures { (number : ℕ) (request : Request) (before next : LineState) (told : List Happening)
+        → IsWhole before.world.floor → LineDoes number request before next told
         → IsWhole next.world.floor }
 {}

@@ -11,8 +11,9 @@ ghost use Rattle.line_step.specs.Tracks.{TrackLine};
 
 /// Unique ids, and ids that stay: after each line of a script no two boards on the floor share an
 /// id; each new id is one that no board had before; and the ids on the floor change only by an
-/// insertion, a replacement, a removal, a done `take`, and where a board goes into a bridge's
-/// segment unseen. One that comes out of a segment unseen has no id.
+/// insertion, a replacement, a removal, a done `take`, where a board goes to another lane or comes
+/// from one, and where a board goes into a bridge's segment unseen. One that comes out of a segment
+/// unseen has no id.
 #[tactic(auto, using(crate::proofs::FloorLaws::ids_stay))]
 pub fn ids_stay()
     ensures { IdsStay }
