@@ -1,6 +1,7 @@
 -- What a hand takes from the floor is told, and lay there; and a step without one leaves every board where it is.
 use Rattle.std.proofs.Common.{Bool, List, None, Option, Ok, Result, Some, [], ap, arith, length, length-set, refl, slice_set, subst, suc, sym, true, zero, ℕ, ◌++◌, ◌-◌, ◌∙◌, ◌∷◌, ◌≡◌, ◌≤◌, append_assoc}
 use Rattle.std.specs.List.{AllByRecursion}
+use Rattle.board_record.specs.declared.record.Record.{Record}
 use Rattle.board_record.specs.Maker.{Maker, next_id}
 use Rattle.board_record.specs.Record.{plain_record}
 use Rattle.board_record.specs.declared.maker.IdsUsedUp.{IdsUsedUp}
@@ -34,7 +35,8 @@ use Rattle.line_step.proofs.Hands.{AreQuiet, announces-quiet, hands_with_tells, 
 use Rattle.line_step.proofs.WithTells.{tells_append}
 use Rattle.node_core.specs.Step.{plain_step}
 use Rattle.node_core.specs.Supervising.{tells_behind, watch_after, watch_behind, watch_of, with_tells}
-use Rattle.line_step.proofs.Makers.{AreNumbered, IsOld, numbered-at, numbered-set, old-set}
+use Rattle.line_step.specs.Made.{IsOld}
+use Rattle.line_step.proofs.Makers.{AreNumbered, numbered-at, numbered-set, old-set}
 use Rattle.line_step.proofs.OnFloor.{LiesThere, as_many_gaps, lies-there_by, quiet-acts}
 use Rattle.one_standing.specs.Carried.{Trace, between_of, stand_of}
 use Rattle.one_standing.specs.Places.{LiesAt, at_machine, lies_at}
@@ -131,6 +133,16 @@ removes_told number m x s after told steps kept =
     let f : Bool → List Act = λ kept. (if_kept kept (with_kept (without x body.kept) body) (acts.Removes x) body).acts in
     step_told number m (inputs.Remove x) (acts.Removes x) s after told steps (ap f kept) (λ w. refl)
 
+-- or gives it to another lane of the machine, or gets it from there
+pub gives_told : (number m x to : ℕ) (s after : LineState) (told : List Happening) (steps : MachineSteps number m (inputs.Gives x to) s after told) → is_kept x (body_then number m (inputs.Gives x to) s after told steps).kept ≡ true → IsTold (happenings.Done m (acts.Gives x to)) told
+gives_told number m x to s after told steps kept =
+    let body = body_then number m (inputs.Gives x to) s after told steps in
+    let f : Bool → List Act = λ kept. (if_kept kept (with_kept (without x body.kept) body) (acts.Gives x to) body).acts in
+    step_told number m (inputs.Gives x to) (acts.Gives x to) s after told steps (ap f kept) (λ w. refl)
+
+pub gets_told : (number m : ℕ) (board : Record) (s after : LineState) (told : List Happening) → MachineSteps number m (inputs.Gets board) s after told → IsTold (happenings.Done m (acts.Gets board.id)) told
+gets_told number m board s after told steps = step_told number m (inputs.Gets board) (acts.Gets board.id) s after told steps refl (λ w. refl)
+
 pub replaces_told : (number m x now : ℕ) (s after : LineState) (told : List Happening) (steps : MachineSteps number m (inputs.Replace x) s after told) → next_id steps.node.maker ≡ Ok now → is_kept x (body_then number m (inputs.Replace x) s after told steps).kept ≡ true → IsTold (happenings.Done m (acts.Replaces x now)) told
 replaces_told number m x now s after told steps new kept =
     let desk = desk_of steps.node (moment_of number) in
@@ -183,6 +195,8 @@ same_maker : (input : Input) (maker : Maker) → IsHandless input → maker_afte
 same_maker (inputs.Insert barcode) maker handless = absurd handless
 same_maker (inputs.Remove id) maker handless = absurd handless
 same_maker (inputs.Replace id) maker handless = absurd handless
+same_maker (inputs.Gives id to) maker handless = absurd handless
+same_maker (inputs.Gets board) maker handless = absurd handless
 same_maker _ maker handless = refl
 
 -- each board is where it was, and all old ids are

@@ -23,7 +23,7 @@ use Rattle.line_step.specs.Numbered as numbered
 use Rattle.line_step.specs.Reasons.{has_link}
 use Rattle.line_step.specs.State.{LineState}
 use Rattle.line_step.specs.World.{link_at}
-use Rattle.line_step.proofs.Makers.{IsOld}
+use Rattle.line_step.specs.Made.{IsOld}
 use Rattle.line_step.proofs.Numbers.{same_or_not}
 use Rattle.one_standing.specs.Carried.{Carried, Carries, IsFitMachine, Trace, between_of, stand_of}
 use Rattle.one_standing.specs.Kept.{Keeps}
@@ -31,17 +31,20 @@ use Rattle.one_standing.specs.Mirrors.{IsReached, cut_above, cut_below, scene_at
 use Rattle.one_standing.specs.Places.{AreApart}
 use Rattle.one_standing.specs.Relation.{Between, Stand}
 use Rattle.one_standing.specs.Stands.{IsAtRest, Stands}
+use Rattle.one_standing.proofs.ApartStep.{PartedThen}
 use Rattle.one_standing.proofs.Steps.{SameAbove, SameBelow, Steps, acts_same_above, acts_same_below, afar_of, step_keeps}
 use Rattle.one_standing.proofs.Traces.{SameTrace, changes_of, put, put_other, put_same}
 
--- what is shown form by form of the line behind a line of a script
-pub record Bears (t : Trace) (s : LineState) : Type 0 where
+-- what is shown form by form of the line behind a line of a script, from whose trace before it: what
+-- is gone then was gone, or is one of those that left
+pub record Bears (Left : ℕ → Type 0) (from t : Trace) (s : LineState) : Type 0 where
   pub keeps : Keeps (stand_of s) (between_of t s)
   pub carried : (link : ℕ) → has_link link s ≡ true → Carried t s link
   pub rest : (link : ℕ) → has_link link s ≡ false → IsAtRest t s link
   pub fit : (machine : ℕ) → IsFitMachine s machine
   pub sound : (machine : ℕ) → IsSound (node_at s machine).capacity (node_at s machine).lane.body
   pub olds : (link id : ℕ) → t.gone link id ≡ true → IsOld 1 s.machines id
+  pub was : (link id : ℕ) → t.gone link id ≡ true → (from.gone link id ≡ true) ⊎ Left id
 
 -- ---- the trace behind a step of machine j + 1
 
@@ -187,17 +190,16 @@ each_fit machine before after changes all own k = by (same_or_not k machine)
     by (inr apart) = fit_machine before after k (ap (λ (x : numbered.Stand). x.node) (changes.machines k apart)) (all k)
 
 -- a machine makes a step, in which its links may be cut: the relation goes on
-pub behind_step : {gone elsewhere : ℕ → Bool} (j : ℕ) (t : Trace) (before after : LineState) (ca cb : Bool) (body : Machine) (told : List Act) → Stands t before → ChangesMachine (j + 1) before after → length after.machines ≡ length before.machines
+pub behind_step : {Left : ℕ → Type 0} {gone elsewhere : ℕ → Bool} (j : ℕ) (t : Trace) (before after : LineState) (ca cb : Bool) (body : Machine) (told : List Act) → Stands t before → ChangesMachine (j + 1) before after → length after.machines ≡ length before.machines
     → (node_at after (j + 1)).lane.body ≡ body → IsReached j before after (cut_below cb (cut_above ca (all_met told (scene_at t before j)))) → IsFitMachine after (j + 1)
     → AreReal j after (cut_below cb (cut_above ca (all_met told (scene_at t before j))))
     → IsSound (node_at after (j + 1)).capacity (node_at after (j + 1)).lane.body
     → (g : Goes (afar_of elsewhere (between_of t before j) gone) (stand_of before j).body.kept [] (t.ghost j) (t.ghost (j + 1)) (scene_at t before j) body (cut_below cb (cut_above ca (all_met told (scene_at t before j)))))
     → (t2 : Trace) → t2 ≡ stepped t j g.a g.b gone (cut_below cb (cut_above ca (all_met told (scene_at t before j))))
-    → AreApart (stand_of after) (between_of t2 after)
+    → PartedThen Left t t2 after
     → ((link : ℕ) → has_link link after ≡ false → IsAtRest t2 after link)
-    → ((link id : ℕ) → t2.gone link id ≡ true → IsOld 1 after.machines id)
-    → Bears t2 after
-behind_step {gone = gone} j t before after ca cb body told st changes many is reached fit real sound g t2 t2_is apart rest olds =
+    → Bears Left t t2 after
+behind_step {gone = gone} j t before after ca cb body told st changes many is reached fit real sound g t2 t2_is parted rest =
     let d : Scene = cut_below cb (cut_above ca (all_met told (scene_at t before j))) in
     let now : Trace = stepped t j g.a g.b gone d in
     let above : SameAbove (stand_of before j) d = same_cut ca cb (acts_same_above (stand_of before j) (between_of t before j) (stand_of before (j + 1)) (between_of t before (j + 1)) (stand_of before (j + 1 + 1)) told) in
@@ -205,12 +207,13 @@ behind_step {gone = gone} j t before after ca cb body told st changes many is re
     let offers : OffersFront body = subst (λ (b : Machine). OffersFront b) is sound.offers in
     record {
       keeps = subst (λ (x : Trace). Keeps (stand_of after) (between_of x after)) (sym t2_is)
-          (step_keeps j (stand_of before) (between_of t before) (stand_of after) (between_of now after) body d st.keeps above below g offers (subst (λ (x : Trace). AreApart (stand_of after) (between_of x after)) t2_is apart)
+          (step_keeps j (stand_of before) (between_of t before) (stand_of after) (between_of now after) body d st.keeps above below g offers (subst (λ (x : Trace). AreApart (stand_of after) (between_of x after)) t2_is parted.apart)
           (steps_of j t before after g.a g.b gone body d changes is reached.place real));
       carried = λ link has. subst (λ (x : Trace). Carried x after link) (sym t2_is)
           (carried_behind j link t before after g.a g.b gone d changes (sym (same_has link before after many) ∙ has) reached real (st.carried link) (same_or_not link j) (same_or_not link (j + 1)));
       rest = rest;
       fit = each_fit (j + 1) before after changes st.fit fit;
       sound = each_machine (λ (n : NodeState). IsSound n.capacity n.lane.body) (j + 1) before after changes st.sound sound;
-      olds = olds;
+      olds = parted.olds;
+      was = parted.was;
     }

@@ -15,7 +15,7 @@ use Rattle.line_step.specs.Tracks.{IsBeside, IsBesideNode}
 use Rattle.line_step.specs.World.{WorldParts, link_at}
 use Rattle.line_step.proofs.Beside.{beside-lane, beside-length, beside-node, beside-old, beside-together}
 use Rattle.line_step.proofs.FloorLaws.{beside-goes}
-use Rattle.line_step.proofs.Makers.{IsOld}
+use Rattle.line_step.specs.Made.{IsOld}
 use Rattle.one_standing.specs.Carried.{Carried, Carries, IsFitMachine, Trace, between_of, stand_of}
 use Rattle.one_standing.specs.Stands.{IsAtRest, Stands}
 use Rattle.one_standing.specs.Waits.{AreWaiting, Waits}

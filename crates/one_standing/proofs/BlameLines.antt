@@ -13,7 +13,6 @@ use Rattle.line_link.specs.declared.link.Connected.{Connected}
 use Rattle.line_link.specs.declared.link.Connected.TheVariants as connections
 use Rattle.line_report.specs.declared.happening.Happening.{Happening}
 use Rattle.line_report.specs.declared.happening.Happening.TheVariants as happenings
-use Rattle.line_script.specs.declared.line.ScriptLine.{ScriptLine}
 use Rattle.session_core.specs.End.{is_standing_state}
 use Rattle.session_core.specs.declared.state.SessionState.{SessionState}
 use Rattle.session_core.specs.declared.state.SessionState.TheVariants.{Handshake, NotConnected, Standing}
@@ -44,7 +43,7 @@ use Rattle.line_step.proofs.Numbers.{link_beyond, machine_within, same_or_not}
 use Rattle.one_standing.specs.Blame.{AreBlamesTrue, IsBlameTrue, NoFalseBlame, WasSpoiled}
 use Rattle.one_standing.specs.Carried.{Trace}
 use Rattle.one_standing.specs.Links.{AreWholeLinks}
-use Rattle.one_standing.specs.Standing.{IsFitLine, IsFitTrack}
+use Rattle.one_standing.specs.Standing.{IsFitRequest, IsFitTrack}
 use Rattle.one_standing.specs.Stands.{Stands}
 use Rattle.one_standing.specs.Told.{IsTold, told_first}
 use Rattle.one_standing.specs.Waits.{AreWaiting}
@@ -67,9 +66,10 @@ use Rattle.one_standing.proofs.MirroringPlain.{is_plain_input, no_second}
 use Rattle.one_standing.proofs.SpoilingLine.{spoil_needs}
 use Rattle.one_standing.proofs.WholeLinks.{CanSpoil, can_spoil, does_whole_links}
 use Rattle.line_step.proofs.Remarks.{all_pass, standings_remarks}
-use Rattle.line_step.proofs.Requests.{IsGiven, Request, may_get, request_of}
+use Rattle.line_step.specs.Requests.{Request, may_get}
+use Rattle.line_step.proofs.Giving.{IsGiven}
 use Rattle.line_step.proofs.Effects.{Effect, added_remarks, becomes_by, line_effect}
-use Rattle.one_standing.proofs.FitRequests.{IsFitRequest, fit_request, given_plain}
+use Rattle.one_standing.proofs.GivenPlain.{given_plain}
 use Rattle.line_step.proofs.Turns.{LineTurns, line_turns}
 use Rattle.line_step.proofs.Getting.{get_may}
 use Rattle.line_step.proofs.Effects as effects
@@ -177,25 +177,25 @@ given_dry (inputs.Bytes side piece) given = absurd given
 given_dry _ given = refl
 
 -- one machine more, with nothing that waits
-pub more_same : {A : Type 0} (P : NodeState → A) (is_bridge : Bool) (capacity used : ℕ) (s : LineState) → P (new_node (profile_of is_bridge (length s.machines + 1) capacity used)) ≡ P no_node → (k : ℕ) → P (node_at (one_more is_bridge capacity used s) k) ≡ P (node_at s k)
-more_same {A} P is_bridge capacity used s none k = by (same_or_not k (length s.machines + 1)) where
-  new : (n : ℕ) → n ≡ length s.machines → P (slice_index_or (one_more is_bridge capacity used s).machines n no_node) ≡ P (slice_index_or s.machines n no_node)
-  new n is = rw is (rw (last_node s.machines (new_node (profile_of is_bridge (length s.machines + 1) capacity used)), no_last s.machines) none)
+pub more_same : {A : Type 0} (P : NodeState → A) (lane : ℕ) (is_bridge : Bool) (capacity used : ℕ) (s : LineState) → P (new_node (profile_of lane is_bridge (length s.machines + 1) capacity used)) ≡ P no_node → (k : ℕ) → P (node_at (one_more lane is_bridge capacity used s) k) ≡ P (node_at s k)
+more_same {A} P lane is_bridge capacity used s none k = by (same_or_not k (length s.machines + 1)) where
+  new : (n : ℕ) → n ≡ length s.machines → P (slice_index_or (one_more lane is_bridge capacity used s).machines n no_node) ≡ P (slice_index_or s.machines n no_node)
+  new n is = rw is (rw (last_node s.machines (new_node (profile_of lane is_bridge (length s.machines + 1) capacity used)), no_last s.machines) none)
 
-  by : (k ≡ length s.machines + 1) ⊎ (k ≢ length s.machines + 1) → P (node_at (one_more is_bridge capacity used s) k) ≡ P (node_at s k)
+  by : (k ≡ length s.machines + 1) ⊎ (k ≢ length s.machines + 1) → P (node_at (one_more lane is_bridge capacity used s) k) ≡ P (node_at s k)
   by (inl is) =
       let next : k ≡ suc (length s.machines) = omega (arith, is) in
-      subst (λ (m : ℕ). P (node_at (one_more is_bridge capacity used s) m) ≡ P (node_at s m)) (sym next) (new (length s.machines) refl)
-  by (inr apart) = ap (λ (x : Stand). P x.node) ((more_changes is_bridge capacity used s).machines k apart)
+      subst (λ (m : ℕ). P (node_at (one_more lane is_bridge capacity used s) m) ≡ P (node_at s m)) (sym next) (new (length s.machines) refl)
+  by (inr apart) = ap (λ (x : Stand). P x.node) ((more_changes lane is_bridge capacity used s).machines k apart)
 
-more_ready : (is_bridge : Bool) (capacity used : ℕ) (s : LineState) (link : ℕ) (side : Side) → ready_of s link side ≡ true → ready_of (one_more is_bridge capacity used s) link side ≡ true
-more_ready is_bridge capacity used s link Exit is = more_same (λ (n : NodeState). is_ready Exit n.lane.body) is_bridge capacity used s refl link ∙ is
-more_ready is_bridge capacity used s link Entry is = more_same (λ (n : NodeState). is_ready Entry n.lane.body) is_bridge capacity used s refl (link + 1) ∙ is
+more_ready : (lane : ℕ) (is_bridge : Bool) (capacity used : ℕ) (s : LineState) (link : ℕ) (side : Side) → ready_of s link side ≡ true → ready_of (one_more lane is_bridge capacity used s) link side ≡ true
+more_ready lane is_bridge capacity used s link Exit is = more_same (λ (n : NodeState). is_ready Exit n.lane.body) lane is_bridge capacity used s refl link ∙ is
+more_ready lane is_bridge capacity used s link Entry is = more_same (λ (n : NodeState). is_ready Entry n.lane.body) lane is_bridge capacity used s refl (link + 1) ∙ is
 
-more_clear : {Taint : ℕ → Side → Type 0} (is_bridge : Bool) (capacity used : ℕ) (s : LineState) → AreClearIn Taint s → AreClearIn Taint (one_more is_bridge capacity used s)
-more_clear is_bridge capacity used s all =
-    are_clear_by (one_more is_bridge capacity used s).world (more_same (λ (n : NodeState). n.lane.exit_bytes) is_bridge capacity used s refl) (λ k. more_same (λ (n : NodeState). n.lane.entry_bytes) is_bridge capacity used s refl (k + 1))
-    (are_clear_ready (ready_of (one_more is_bridge capacity used s)) (one_more is_bridge capacity used s).world (more_ready is_bridge capacity used s) (links_clear s (one_more is_bridge capacity used s) (more_at is_bridge capacity used s) all))
+more_clear : {Taint : ℕ → Side → Type 0} (lane : ℕ) (is_bridge : Bool) (capacity used : ℕ) (s : LineState) → AreClearIn Taint s → AreClearIn Taint (one_more lane is_bridge capacity used s)
+more_clear lane is_bridge capacity used s all =
+    are_clear_by (one_more lane is_bridge capacity used s).world (more_same (λ (n : NodeState). n.lane.exit_bytes) lane is_bridge capacity used s refl) (λ k. more_same (λ (n : NodeState). n.lane.entry_bytes) lane is_bridge capacity used s refl (k + 1))
+    (are_clear_ready (ready_of (one_more lane is_bridge capacity used s)) (one_more lane is_bridge capacity used s).world (more_ready lane is_bridge capacity used s) (links_clear s (one_more lane is_bridge capacity used s) (more_at lane is_bridge capacity used s) all))
 
 cut_clear : {Taint : ℕ → Side → Type 0} (gap : ℕ) (s : LineState) → AreClearIn Taint s → AreClearIn Taint (cut_in gap s)
 cut_clear {Taint} gap s all = same_bytes s (cut_in gap s) refl (are_clear_with gap (cut (link_at gap s.world)) s.world all (clear_cut (link_at gap s.world)))
@@ -225,7 +225,7 @@ flow_line number m side count t before next told g may flows =
 effect_clear : {Taint : ℕ → Side → Type 0} (number : ℕ) (request : Request) (t : Trace) (before next : LineState) (told : List Happening) → IsFitRequest request → ((m : ℕ) (side : Side) → 1 ≤ m → IsTold (happenings.Spoils m side) told → Taint (link_of m side) side)
     → Given Taint number t before next told → Effect number before next told request → AreClearIn Taint next
 effect_clear {Taint} number request t before next told fit taints g (effects.rests _ what remarks b) = becomes_by (λ s ts. AreClearIn Taint s) b g.all
-effect_clear {Taint} number request t before next told fit taints g (effects.adds is_bridge capacity used may b) = becomes_by (λ s ts. AreClearIn Taint s) b (more_clear is_bridge capacity used before g.all)
+effect_clear {Taint} number request t before next told fit taints g (effects.adds lane is_bridge capacity used may b) = becomes_by (λ s ts. AreClearIn Taint s) b (more_clear lane is_bridge capacity used before g.all)
 effect_clear number request t before next told fit taints g (effects.steps m input given may did) =
     plain_clear number m input t before next told (given_plain input given) (given_dry input given) fit (given_free m input before may) g did
 effect_clear number request t before next told fit taints g (effects.connects m may did) = connects_clear g.alone number m before next told g.few g.holds.fit g.holds.links g.holds.together may did g.all
@@ -273,7 +273,7 @@ flow_blame past number m side count t before next told alone holds all may flows
 
 turns_blame : (past : List Happening) (number : ℕ) (request : Request) (t : Trace) (before next : LineState) (told : List Happening) → SaysAlone → Stands t before → AreClearIn (TaintBy past) before → LineTurns number before next told request → AllBlames (WasSpoiled past) told
 turns_blame past number request t before next told alone holds all (turns.stays _ same none) = all_pass told (no_acts_blame (WasSpoiled past)) none
-turns_blame past number request t before next told alone holds all (turns.adds is_bridge capacity used may b) =
+turns_blame past number request t before next told alone holds all (turns.adds lane is_bridge capacity used may b) =
     subst (λ (hs : List Happening). AllBlames (WasSpoiled past) hs) (sym b.told_is) (remarks_blame (WasSpoiled past) _ (added_remarks is_bridge capacity before))
 turns_blame past number request t before next told alone holds all (turns.steps m input given may did) = quiet_blame (WasSpoiled past) number m input before next told (given_dry input given) (given_free m input before may) did
 turns_blame past number request t before next told alone holds all (turns.connects m may did) = connects_blame (WasSpoiled past) number m before next told did
@@ -281,14 +281,14 @@ turns_blame past number request t before next told alone holds all (turns.flows 
 
 -- ---- EACH LINE
 
-pub line_blame : (past : List Happening) (number : ℕ) (line : ScriptLine) (t : Trace) (before after : LineState) (told : List Happening) → SaysAlone → Stands t before → AreClearIn (TaintBy past) before → LineSteps number line before after told → IsBlameTrue past told
-line_blame past number line t before after told alone holds all steps =
+pub line_blame : (past : List Happening) (number : ℕ) (request : Request) (t : Trace) (before after : LineState) (told : List Happening) → SaysAlone → Stands t before → AreClearIn (TaintBy past) before → LineSteps number request before after told → IsBlameTrue past told
+line_blame past number request t before after told alone holds all steps =
     let both : AllBlames (WasSpoiled past) (steps.done ++ standings_told before steps.next) =
-    both_blame (WasSpoiled past) steps.done (standings_told before steps.next) (turns_blame past number (request_of line) t before steps.next steps.done alone holds all (line_turns number line before steps.next steps.done steps.does)) (remarks_blame (WasSpoiled past) _ (standings_remarks before steps.next)) in
+    both_blame (WasSpoiled past) steps.done (standings_told before steps.next) (turns_blame past number request t before steps.next steps.done alone holds all (line_turns number request before steps.next steps.done steps.does)) (remarks_blame (WasSpoiled past) _ (standings_remarks before steps.next)) in
     λ machine side text is. blame_told (WasSpoiled past) machine side text told (subst (λ (hs : List Happening). AllBlames (WasSpoiled past) hs) (sym steps.told_is) both) is
 
-pub line_clear : (past : List Happening) (number : ℕ) (line : ScriptLine) (before after : LineState) (told : List Happening) → SaysAlone → number ≤ 1000000 → IsFitLine line → Stood before → AreClearIn (TaintBy past) before → LineSteps number line before after told → AreClearIn (TaintBy (past ++ told)) after
-line_clear past number line before after told alone few fit was all steps =
+pub line_clear : (past : List Happening) (number : ℕ) (request : Request) (before after : LineState) (told : List Happening) → SaysAlone → number ≤ 1000000 → IsFitRequest request → Stood before → AreClearIn (TaintBy past) before → LineSteps number request before after told → AreClearIn (TaintBy (past ++ told)) after
+line_clear past number request before after told alone few fit was all steps =
     let next : LineState = steps.next in
     let st : Stands was.trace before = was.stands in
     let taints : (m : ℕ) (side : Side) → 1 ≤ m → IsTold (happenings.Spoils m side) steps.done → TaintBy (past ++ told) (link_of m side) side =
@@ -298,16 +298,16 @@ line_clear past number line before after told alone few fit was all steps =
       few = few;
       holds = st;
       waits = was.waits;
-      whole = does_whole_links number line before next steps.done st.links steps.does;
-      together = does_together number line before next steps.done st.together steps.does;
+      whole = does_whole_links number request before next steps.done st.links steps.does;
+      together = does_together number request before next steps.done st.together steps.does;
       all = are_clear_map before.world (taint_more past told) all;
     } in
-    let clear : AreClearIn (TaintBy (past ++ told)) next = effect_clear number (request_of line) was.trace before next steps.done (fit_request line fit) taints given (line_effect number line before next steps.done steps.does) in
+    let clear : AreClearIn (TaintBy (past ++ told)) next = effect_clear number request was.trace before next steps.done fit taints given (line_effect number request before next steps.done steps.does) in
     subst (λ (s : LineState). AreClearIn (TaintBy (past ++ told)) s) (sym steps.after_is) (same_clear next (record next { lines = steps.lines }) refl (λ k. refl) clear)
 
 -- a line of another track
 track_blame : (past : List Happening) (number : ℕ) (line : TrackLine) (t : Trace) (before after : LineState) (told : List Happening) → SaysAlone → Stands t before → AreClearIn (TaintBy past) before → TrackSteps number line before after told → IsBlameTrue past told
-track_blame past number (own_line line) t before after told alone holds all steps = line_blame past number line t before after told alone holds all steps
+track_blame past number (own_line request) t before after told alone holds all steps = line_blame past number request t before after told alone holds all steps.0
 track_blame past number other_line t before after told alone holds all steps =
     λ machine side text is. blame_told (WasSpoiled past) machine side text told (subst (λ (hs : List Happening). AllBlames (WasSpoiled past) hs) (sym steps.1) tt) is
 
@@ -321,7 +321,7 @@ beside_clear s t beside all =
     (are_clear_ready (ready_of t) t.world (beside_ready s t beside) (links_clear s t (λ k. ap (link_at k) beside.world) all))
 
 track_clear : (past : List Happening) (number : ℕ) (line : TrackLine) (before after : LineState) (told : List Happening) → SaysAlone → number ≤ 1000000 → IsFitTrack line → Stood before → AreClearIn (TaintBy past) before → TrackSteps number line before after told → AreClearIn (TaintBy (past ++ told)) after
-track_clear past number (own_line line) before after told alone few fit was all steps = line_clear past number line before after told alone few fit was all steps
+track_clear past number (own_line request) before after told alone few fit was all steps = line_clear past number request before after told alone few fit was all steps.0
 track_clear past number other_line before after told alone few fit was all steps = are_clear_map after.world (taint_more past told) (beside_clear before after steps.0 all)
 
 -- ---- along a run
@@ -350,4 +350,4 @@ none_clear = record { at = λ link. none_at (TaintBy []) link }
 -- THE LAW
 pub no_false_blame : SaysAlone → ConnectsBear → NoFalseBlame
 no_false_blame alone connects asked points n fit few run honest =
-    blame_run alone [] no_line asked points n fit few none_stood run (run_stood alone connects no_line asked points n fit few none_stood run honest) none_clear
+    blame_run alone [] no_line asked points n fit few none_stood.stood run (run_stood alone connects no_line asked points n fit few none_stood run honest) none_clear

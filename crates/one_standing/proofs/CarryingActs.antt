@@ -58,6 +58,10 @@ act_like {near = near} {c = c} alone (acts.Inserts id) rest fit k =
     record { place = boards_now near.place c.boards (λ bs. bs ++ record { id = Some id } ∷ []) k.place; above = joint_on Entry (acts.Inserts id) rest refl refl k.above; below = joint_on Exit (acts.Inserts id) rest refl refl k.below }
 act_like {near = near} {c = c} alone (acts.Removes id) rest fit k =
     record { place = boards_now near.place c.boards (without_board id) k.place; above = joint_on Entry (acts.Removes id) rest refl refl k.above; below = joint_on Exit (acts.Removes id) rest refl refl k.below }
+act_like {near = near} {c = c} alone (acts.Gives id to) rest fit k =
+    record { place = boards_now near.place c.boards (without_board id) k.place; above = joint_on Entry (acts.Gives id to) rest refl refl k.above; below = joint_on Exit (acts.Gives id to) rest refl refl k.below }
+act_like {near = near} {c = c} alone (acts.Gets id) rest fit k =
+    record { place = boards_now near.place c.boards (λ bs. bs ++ record { id = Some id } ∷ []) k.place; above = joint_on Entry (acts.Gets id) rest refl refl k.above; below = joint_on Exit (acts.Gets id) rest refl refl k.below }
 act_like {near = near} {c = c} alone (acts.Replaces old id) rest fit k =
     record { place = boards_now near.place c.boards (with_new_id old id) k.place; above = joint_on Entry (acts.Replaces old id) rest refl refl k.above; below = joint_on Exit (acts.Replaces old id) rest refl refl k.below }
 act_like alone act rest fit k = like_on act rest k (joint_on Entry act rest refl refl k.above) (joint_on Exit act rest refl refl k.below)

@@ -115,6 +115,10 @@ act_off {near = near} {c = c} alone (acts.Inserts id) rest fit k =
     record { place = boards_now near.place c.boards (λ bs. bs ++ record { id = Some id } ∷ []) k.place; above = joint_on Entry (acts.Inserts id) rest refl refl k.above; there = k.there; off = k.off; below = side_on Exit (acts.Inserts id) rest refl refl k.below; linked = k.linked }
 act_off {near = near} {c = c} alone (acts.Removes id) rest fit k =
     record { place = boards_now near.place c.boards (without_board id) k.place; above = joint_on Entry (acts.Removes id) rest refl refl k.above; there = k.there; off = k.off; below = side_on Exit (acts.Removes id) rest refl refl k.below; linked = k.linked }
+act_off {near = near} {c = c} alone (acts.Gives id to) rest fit k =
+    record { place = boards_now near.place c.boards (without_board id) k.place; above = joint_on Entry (acts.Gives id to) rest refl refl k.above; there = k.there; off = k.off; below = side_on Exit (acts.Gives id to) rest refl refl k.below; linked = k.linked }
+act_off {near = near} {c = c} alone (acts.Gets id) rest fit k =
+    record { place = boards_now near.place c.boards (λ bs. bs ++ record { id = Some id } ∷ []) k.place; above = joint_on Entry (acts.Gets id) rest refl refl k.above; there = k.there; off = k.off; below = side_on Exit (acts.Gets id) rest refl refl k.below; linked = k.linked }
 act_off {near = near} {c = c} alone (acts.Replaces old id) rest fit k =
     record { place = boards_now near.place c.boards (with_new_id old id) k.place; above = joint_on Entry (acts.Replaces old id) rest refl refl k.above; there = k.there; off = k.off; below = side_on Exit (acts.Replaces old id) rest refl refl k.below; linked = k.linked }
 act_off alone (acts.Reads at event) rest fit k = record { place = k.place; above = joint_on Entry (acts.Reads at event) rest refl refl k.above; there = k.there; off = k.off; below = side_on Exit (acts.Reads at event) rest refl refl k.below; linked = k.linked }

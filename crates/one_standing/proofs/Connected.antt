@@ -1,6 +1,7 @@
 -- A connection is made: a first one or a second one.
 use Rattle.std.proofs.Common.{List, None, Option, Some, ap, arith, false, length, not, refl, subst, sym, true, ℕ, ◌&&◌, ◌+◌, ◌-◌, ◌∙◌, ◌≡◌, ◌<◌, ◌≤◌}
 use Rattle.std.specs.Prelude.{nat_le, nat_lt}
+use Rattle.one_standing.proofs.ApartStep.{LayOn}
 use Rattle.one_standing.proofs.MirroringEnds.{before_one}
 use Rattle.line_base.specs.declared.states.Side.TheVariants.{Entry}
 use Rattle.line_link.specs.Link.{after_connect, connected_of}
@@ -66,7 +67,7 @@ same_node machine s a b one two = sym (node_there machine s a one) ∙ node_ther
 
 -- ---- the two kinds
 
-first_bears : (number j : ℕ) (t : Trace) (before after : LineState) (told all : List Happening) → Setting number t before after told all → may_connect (j + 1 + 1) before ≡ may_do → (link_at (j + 1) before.world).upstream ≡ None → Connects number (j + 1 + 1) before after told → Bearing after
+first_bears : (number j : ℕ) (t : Trace) (before after : LineState) (told all : List Happening) → Setting number t before after told all → may_connect (j + 1 + 1) before ≡ may_do → (link_at (j + 1) before.world).upstream ≡ None → Connects number (j + 1 + 1) before after told → Bearing (LayOn before) t after
 first_bears number j t before after told all s may none connects =
     let st = s.around.st in
     let m : MirrorsFirst number j t before after = connects_first s.alone t number j before after told may s.few st st.links none connects in
@@ -83,7 +84,7 @@ first_bears number j t before after told all s may none connects =
     (record { earlier = m.earlier; later = m.later; input = inputs.Accepted; first = m.first; second = m.second; may_first = can; may_second = second_may; handless = tt; no_call = λ no. absurd (cc) })
     (first_first number j t before after st m can_call) (first_second number j t before after st m can_call meet_may counted holds many)
 
-second_bears : (number j other : ℕ) (t : Trace) (before after : LineState) (told all : List Happening) → Setting number t before after told all → may_connect (j + 1 + 1) before ≡ may_do → (link_at (j + 1) before.world).upstream ≡ Some other → Connects number (j + 1 + 1) before after told → Bearing after
+second_bears : (number j other : ℕ) (t : Trace) (before after : LineState) (told all : List Happening) → Setting number t before after told all → may_connect (j + 1 + 1) before ≡ may_do → (link_at (j + 1) before.world).upstream ≡ Some other → Connects number (j + 1 + 1) before after told → Bearing (LayOn before) t after
 second_bears number j other t before after told all s may some connects =
     let st = s.around.st in
     let m : MirrorsSecond number j t before after = connects_second s.alone t number j before after told other may s.few st st.links some connects in
@@ -101,7 +102,7 @@ second_bears number j other t before after told all s may some connects =
     (record { earlier = m.earlier; later = m.later; input = inputs.Second; first = m.first; second = m.second; may_first = can; may_second = second_may; handless = tt; no_call = λ no. absurd (cc) })
     (second_first number j t before after st m can_call off) (second_second number j t before after st m can_call off counted holds many)
 
-kinds_bear : (number j : ℕ) (t : Trace) (before after : LineState) (told all : List Happening) (upstream : Option ℕ) → (link_at (j + 1) before.world).upstream ≡ upstream → Setting number t before after told all → may_connect (j + 1 + 1) before ≡ may_do → Connects number (j + 1 + 1) before after told → Bearing after
+kinds_bear : (number j : ℕ) (t : Trace) (before after : LineState) (told all : List Happening) (upstream : Option ℕ) → (link_at (j + 1) before.world).upstream ≡ upstream → Setting number t before after told all → may_connect (j + 1 + 1) before ≡ may_do → Connects number (j + 1 + 1) before after told → Bearing (LayOn before) t after
 kinds_bear number j t before after told all None is s may connects = first_bears number j t before after told all s may is connects
 kinds_bear number j t before after told all (Some other) is s may connects = second_bears number j other t before after told all s may is connects
 
@@ -109,5 +110,5 @@ kinds_bear number j t before after told all (Some other) is s may connects = sec
 pub connects_bear : ConnectsBear
 connects_bear number machine t before after told all s may connects =
     let can = can_connect machine before may in
-    let Q : ℕ → Type 0 = λ n. may_connect n before ≡ may_do → Connects number n before after told → Bearing after in
+    let Q : ℕ → Type 0 = λ n. may_connect n before ≡ may_do → Connects number n before after told → Bearing (LayOn before) t after in
     subst Q (less_two machine can.behind) (λ may connects. kinds_bear number (machine - 2) t before after told all (link_at (machine - 2 + 1) before.world).upstream refl s may connects) may connects

@@ -22,7 +22,7 @@ use Rattle.node_core.specs.Desk.{Desk}
 use Rattle.node_core.specs.Done.{Done}
 use Rattle.node_core.specs.Event.{Event, Insert, Mark, Nothing, Remove, Replace, Words, event_of, with_new, Sub}
 use Rattle.node_core.specs.Halves.{OffersFront}
-use Rattle.node_core.specs.May.{may_do, may_of, no_if}
+use Rattle.node_core.specs.May.{may_do, may_on_lane, no_if}
 use Rattle.node_core.specs.Node.{NodeState, desk_of}
 use Rattle.node_core.specs.Step.{machine_step}
 use Rattle.node_core.specs.declared.act.Act.TheVariants as acts
@@ -49,7 +49,7 @@ use Rattle.line_step.specs.State.{LineState}
 use Rattle.line_step.specs.Steps.{MachineSteps, moment_of, unread_by}
 use Rattle.line_step.specs.Together.{IsLineTogether}
 use Rattle.line_step.proofs.FloorLaws as floor
-use Rattle.line_step.proofs.Makers.{IsOld}
+use Rattle.line_step.specs.Made.{IsOld}
 use Rattle.line_step.proofs.Numbers.{same_or_not}
 use Rattle.one_standing.specs.Carried.{Trace, between_of, stand_of}
 use Rattle.one_standing.specs.Mirrors.{AreHeard, Mirrors, scene_at}
@@ -59,7 +59,7 @@ use Rattle.one_standing.specs.Stands.{Stands}
 use Rattle.one_standing.proofs.ApartFloor.{lies_on_floor}
 use Rattle.one_standing.proofs.ApartHands.{here_lies, inserts_told, removes_told, replaces_told}
 use Rattle.one_standing.specs.Told.{IsTold, told_first, told_later}
-use Rattle.one_standing.proofs.ApartStep.{apart_removed, apart_replaced, apart_stays, floor_old, grown}
+use Rattle.one_standing.proofs.ApartStep.{AreNews, LayOn, apart_removed, apart_replaced, apart_stays, floor_old, grown}
 use Rattle.one_standing.proofs.Behind.{Bears}
 use Rattle.one_standing.proofs.Elsewhere.{afar_at, elsewhere_of, good_at, unique_at}
 use Rattle.one_standing.proofs.HandsThere.{gone_renamed, gone_without, lies_renamed, lies_without}
@@ -73,13 +73,14 @@ pub record Around (t : Trace) (before after : LineState) (told : List Happening)
   pub st : Stands t before
   pub together : IsLineTogether after
   pub goes : floor.Goes before after told
+  pub news : AreNews t before told
 
-abbrev pub Bearing : LineState → Type 0
-Bearing after = (t2 : Trace) × Bears t2 after
+abbrev pub Bearing : (ℕ → Type 0) → Trace → LineState → Type 0
+Bearing Left t after = (t2 : Trace) × Bears Left t t2 after
 
 -- ---- what is gone
 
-same_gone : (j : ℕ) (t : Trace) (k y : ℕ) → (k ≡ j + 1) ⊎ (k ≢ j + 1) → put (j + 1) (t.gone (j + 1)) t.gone k y ≡ t.gone k y
+pub same_gone : (j : ℕ) (t : Trace) (k y : ℕ) → (k ≡ j + 1) ⊎ (k ≢ j + 1) → put (j + 1) (t.gone (j + 1)) t.gone k y ≡ t.gone k y
 same_gone j t k y (inl is) = rw is (ap (λ (f : ℕ → Bool). f y) (put_same (j + 1) (t.gone (j + 1)) t.gone))
 same_gone j t k y (inr apart) = ap (λ (f : ℕ → Bool). f y) (put_other (j + 1) k (t.gone (j + 1)) t.gone apart)
 
@@ -144,9 +145,9 @@ offers_node j t s node st is = subst (λ (n : NodeState). OffersFront n.lane.bod
 
 -- ---- steps without a hand
 
-pub plain_bears : (number j : ℕ) (input : Input) (t : Trace) (before after : LineState) (told all : List Happening) → Around t before after all → (steps : MachineSteps number (j + 1) input before after told) → may_of steps.node input ≡ may_do
+pub plain_bears : {Left : ℕ → Type 0} (number j : ℕ) (input : Input) (t : Trace) (before after : LineState) (told all : List Happening) → Around t before after all → (steps : MachineSteps number (j + 1) input before after told) → may_on_lane steps.node input ≡ may_do
     → (input ≡ inputs.Connect → has_link j before ≡ true) → (input ≡ inputs.Accepted → has_link (j + 1) before ≡ true)
-    → (m : Mirrors number j input t before after) → IsPlain (event_of m.node.maker input m.words) (scene_at t before j) → Bearing after
+    → (m : Mirrors number j input t before after) → IsPlain (event_of m.node.maker input m.words) (scene_at t before j) → Bearing Left t after
 plain_bears number j input t before after told all a steps may connects accepts m plain =
     let node : NodeState = m.node in
     let is : node_at before (j + 1) ≡ node = node_there (j + 1) before node m.there in
@@ -154,7 +155,7 @@ plain_bears number j input t before after told all a steps may connects accepts 
     let goes : Steady j t before (t.gone (j + 1)) (machine_step (desk_of node (moment_of number)) (unread_by (j + 1) before.world) event node.lane.body) =
     plain_keeps (desk_of node (moment_of number)) (unread_by (j + 1) before.world) event node.lane.body (scene_at t before j) plain (offers_node j t before node a.st is) (good_node j t before node a.st is) in
     step_bears number j input t before after told a.st steps may a.together a.goes.holds connects accepts m goes
-    (λ t2 same. apart_stays t t2 before after all a.goes (λ k y. same k y ∙ same_gone j t k y (same_or_not k (j + 1))) (record { apart = a.st.keeps.apart; olds = a.st.olds }))
+    (λ t2 same. apart_stays t t2 before after all a.goes a.news (λ k y. same k y ∙ same_gone j t k y (same_or_not k (j + 1))) (record { apart = a.st.keeps.apart; olds = a.st.olds }))
 
 -- ---- a board is put in
 
@@ -183,20 +184,20 @@ insert_steady : (j : ℕ) (t : Trace) (s : LineState) (desk : Desk) (barcode : O
 insert_steady j t s desk barcode body (Err why) st good offers idle new = plain_keeps desk (unread_by (j + 1) s.world) Nothing body (scene_at t s j) plain_nothing offers good
 insert_steady j t s desk barcode body (Ok id) st good offers idle new = insert_goes (t.gone (j + 1)) desk (unread_by (j + 1) s.world) id barcode body (scene_at t s j) good idle (λ x is. is) (here_inserted j id t s st (new id refl))
 
-pub insert_bears : (number j : ℕ) (barcode : Option (List ℕ)) (t : Trace) (before after : LineState) (told all : List Happening) → Around t before after all → ((h : Happening) → IsTold h told → IsTold h all)
-    → (steps : MachineSteps number (j + 1) (inputs.Insert barcode) before after told) → may_of steps.node (inputs.Insert barcode) ≡ may_do → Mirrors number j (inputs.Insert barcode) t before after → Bearing after
+pub insert_bears : {Left : ℕ → Type 0} (number j : ℕ) (barcode : Option (List ℕ)) (t : Trace) (before after : LineState) (told all : List Happening) → Around t before after all → ((h : Happening) → IsTold h told → IsTold h all)
+    → (steps : MachineSteps number (j + 1) (inputs.Insert barcode) before after told) → may_on_lane steps.node (inputs.Insert barcode) ≡ may_do → Mirrors number j (inputs.Insert barcode) t before after → Bearing Left t after
 insert_bears number j barcode t before after told all a more steps may m =
     let node : NodeState = m.node in
     let is : node_at before (j + 1) ≡ node = node_there (j + 1) before node m.there in
     let same : node ≡ steps.node = sym is ∙ node_there (j + 1) before steps.node steps.there in
-    let may_own : may_of node (inputs.Insert barcode) ≡ may_do = ap (λ (n : NodeState). may_of n (inputs.Insert barcode)) same ∙ may in
+    let may_own : may_on_lane node (inputs.Insert barcode) ≡ may_do = ap (λ (n : NodeState). may_on_lane n (inputs.Insert barcode)) same ∙ may in
     let idle : node.lane.body.intake.phase ≡ inn.Idle = free_phase node.lane.body.intake.phase (passes_first (is_intake_free node.lane.body) _ _ may_own) in
     let new : (id : ℕ) → next_id node.maker ≡ Ok id → IsNew before id = λ id made.
     (made_there (IsNew before) (more (happenings.Done (j + 1) (acts.Inserts id)) (inserts_told number (j + 1) id barcode before after told steps (sym (ap (λ (n : NodeState). next_id n.maker) same) ∙ made))) a.goes.fresh).0 in
     let goes : Steady j t before (t.gone (j + 1)) (machine_step (desk_of node (moment_of number)) (unread_by (j + 1) before.world) (event_of node.maker (inputs.Insert barcode) m.words) node.lane.body) =
     insert_steady j t before (desk_of node (moment_of number)) barcode node.lane.body (next_id node.maker) a.st (good_node j t before node a.st is) (offers_node j t before node a.st is) idle new in
     step_bears number j (inputs.Insert barcode) t before after told a.st steps may a.together a.goes.holds (λ no. cc) (λ no. cc) m goes
-    (λ t2 same. apart_stays t t2 before after all a.goes (λ k y. same k y ∙ same_gone j t k y (same_or_not k (j + 1))) (record { apart = a.st.keeps.apart; olds = a.st.olds }))
+    (λ t2 same. apart_stays t t2 before after all a.goes a.news (λ k y. same k y ∙ same_gone j t k y (same_or_not k (j + 1))) (record { apart = a.st.keeps.apart; olds = a.st.olds }))
 
 -- ---- a board is taken out
 
@@ -215,12 +216,12 @@ here_removed j id t s st there x lies gone =
     ]
 
 pub remove_bears : (number j id : ℕ) (t : Trace) (before after : LineState) (told all : List Happening) → Around t before after all → ((h : Happening) → IsTold h told → IsTold h all)
-    → (steps : MachineSteps number (j + 1) (inputs.Remove id) before after told) → may_of steps.node (inputs.Remove id) ≡ may_do → is_here (j + 1) id before.world ≡ true → Mirrors number j (inputs.Remove id) t before after → Bearing after
+    → (steps : MachineSteps number (j + 1) (inputs.Remove id) before after told) → may_on_lane steps.node (inputs.Remove id) ≡ may_do → is_here (j + 1) id before.world ≡ true → Mirrors number j (inputs.Remove id) t before after → Bearing (LayOn before) t after
 remove_bears number j id t before after told all a more steps may here m =
     let node : NodeState = m.node in
     let is : node_at before (j + 1) ≡ node = node_there (j + 1) before node m.there in
     let same : node ≡ steps.node = sym is ∙ node_there (j + 1) before steps.node steps.there in
-    let may_own : may_of node (inputs.Remove id) ≡ may_do = ap (λ (n : NodeState). may_of n (inputs.Remove id)) same ∙ may in
+    let may_own : may_on_lane node (inputs.Remove id) ≡ may_do = ap (λ (n : NodeState). may_on_lane n (inputs.Remove id)) same ∙ may in
     let kept : is_kept id node.lane.body.kept ≡ true = passes_first (is_kept id node.lane.body.kept) _ _ may_own in
     let kept_first : is_kept id steps.node.lane.body.kept ≡ true = ap (λ (n : NodeState). is_kept id n.lane.body.kept) (sym same) ∙ kept in
     let gone : ℕ → Bool = grown (j + 1) id t.gone (j + 1) in
@@ -229,7 +230,7 @@ remove_bears number j id t before after told all a more steps may here m =
     remove_goes gone (desk_of node (moment_of number)) (unread_by (j + 1) before.world) id node.lane.body (scene_at t before j) (good_node j t before node a.st is) (unique_node j t before a.st)
     (read_kept id (desk_of node (moment_of number)) (unread_by (j + 1) before.world) node.lane.body kept) (grows (j + 1) id t.gone (j + 1)) (own_gone (j + 1) id t.gone) (here_removed j id t before a.st (lies_of there)) in
     step_bears number j (inputs.Remove id) t before after told a.st steps may a.together a.goes.holds (λ no. cc) (λ no. cc) m goes
-    (λ t2 same. apart_removed t t2 before after all (j + 1) id (at_machine (j + 1)) a.st.ids a.goes
+    (λ t2 same. apart_removed t t2 before after all (j + 1) id (at_machine (j + 1)) a.st.ids a.goes a.news
     (more (happenings.Done (j + 1) (acts.Removes id)) (removes_told number (j + 1) id before after told steps (read_kept id (desk_of steps.node (moment_of number)) (unread_by (j + 1) before.world) steps.node.lane.body kept_first)))
     there (λ k y. same k y ∙ more_gone j id t k y (same_or_not k (j + 1))) (record { apart = a.st.keeps.apart; olds = a.st.olds }))
 
@@ -257,15 +258,15 @@ abbrev Replacing : ℕ → ℕ → ℕ → Trace → LineState → NodeState →
 Replacing number j old t before node gone answer = Steady j t before gone (machine_step (desk_of node (moment_of number)) (unread_by (j + 1) before.world) (ReplaceOf old answer) node.lane.body)
 
 replace_by : (number j old : ℕ) (t : Trace) (before after : LineState) (told all : List Happening) → Around t before after all → ((h : Happening) → IsTold h told → IsTold h all)
-    → (steps : MachineSteps number (j + 1) (inputs.Replace old) before after told) → may_of steps.node (inputs.Replace old) ≡ may_do → is_here (j + 1) old before.world ≡ true → (m : Mirrors number j (inputs.Replace old) t before after)
-    → is_kept old m.node.lane.body.kept ≡ true → m.node ≡ steps.node → (answer : Result ℕ IdsUsedUp) → next_id m.node.maker ≡ answer → Bearing after
+    → (steps : MachineSteps number (j + 1) (inputs.Replace old) before after told) → may_on_lane steps.node (inputs.Replace old) ≡ may_do → is_here (j + 1) old before.world ≡ true → (m : Mirrors number j (inputs.Replace old) t before after)
+    → is_kept old m.node.lane.body.kept ≡ true → m.node ≡ steps.node → (answer : Result ℕ IdsUsedUp) → next_id m.node.maker ≡ answer → Bearing (LayOn before) t after
 replace_by number j old t before after told all a more steps may here m kept same (Err why) found =
     let node : NodeState = m.node in
     let is : node_at before (j + 1) ≡ node = node_there (j + 1) before node m.there in
     let goes : Replacing number j old t before node (t.gone (j + 1)) (Err why) = plain_keeps (desk_of node (moment_of number)) (unread_by (j + 1) before.world) Nothing node.lane.body (scene_at t before j) plain_nothing (offers_node j t before node a.st is) (good_node j t before node a.st is) in
     step_bears number j (inputs.Replace old) t before after told a.st steps may a.together a.goes.holds (λ no. cc) (λ no. cc) m
     (subst (λ (answer : Result ℕ IdsUsedUp). Replacing number j old t before node (t.gone (j + 1)) answer) (sym found) goes)
-    (λ t2 same. apart_stays t t2 before after all a.goes (λ k y. same k y ∙ same_gone j t k y (same_or_not k (j + 1))) (record { apart = a.st.keeps.apart; olds = a.st.olds }))
+    (λ t2 same. apart_stays t t2 before after all a.goes a.news (λ k y. same k y ∙ same_gone j t k y (same_or_not k (j + 1))) (record { apart = a.st.keeps.apart; olds = a.st.olds }))
 replace_by number j old t before after told all a more steps may here m kept same (Ok new) found =
     let node : NodeState = m.node in
     let desk : Desk = desk_of node (moment_of number) in
@@ -283,14 +284,14 @@ replace_by number j old t before after told all a more steps may here m kept sam
     (read_kept old desk unread node.lane.body kept) (grows (j + 1) old t.gone (j + 1)) (own_gone (j + 1) old t.gone) (here_renamed j old new t before a.st (lies_of there) fresh apart) in
     step_bears number j (inputs.Replace old) t before after told a.st steps may a.together a.goes.holds (λ no. cc) (λ no. cc) m
     (subst (λ (answer : Result ℕ IdsUsedUp). Replacing number j old t before node gone answer) (sym found) goes)
-    (λ t2 same. apart_replaced t t2 before after all (j + 1) old new (at_machine (j + 1)) a.st.ids a.goes is_told there (λ k y. same k y ∙ more_gone j old t k y (same_or_not k (j + 1))) (record { apart = a.st.keeps.apart; olds = a.st.olds }))
+    (λ t2 same. apart_replaced t t2 before after all (j + 1) old new (at_machine (j + 1)) a.st.ids a.goes a.news is_told there (λ k y. same k y ∙ more_gone j old t k y (same_or_not k (j + 1))) (record { apart = a.st.keeps.apart; olds = a.st.olds }))
 
 pub replace_bears : (number j old : ℕ) (t : Trace) (before after : LineState) (told all : List Happening) → Around t before after all → ((h : Happening) → IsTold h told → IsTold h all)
-    → (steps : MachineSteps number (j + 1) (inputs.Replace old) before after told) → may_of steps.node (inputs.Replace old) ≡ may_do → is_here (j + 1) old before.world ≡ true → Mirrors number j (inputs.Replace old) t before after → Bearing after
+    → (steps : MachineSteps number (j + 1) (inputs.Replace old) before after told) → may_on_lane steps.node (inputs.Replace old) ≡ may_do → is_here (j + 1) old before.world ≡ true → Mirrors number j (inputs.Replace old) t before after → Bearing (LayOn before) t after
 replace_bears number j old t before after told all a more steps may here m =
     let node : NodeState = m.node in
     let same : node ≡ steps.node = sym (node_there (j + 1) before node m.there) ∙ node_there (j + 1) before steps.node steps.there in
-    let may_own : may_of node (inputs.Replace old) ≡ may_do = ap (λ (n : NodeState). may_of n (inputs.Replace old)) same ∙ may in
+    let may_own : may_on_lane node (inputs.Replace old) ≡ may_do = ap (λ (n : NodeState). may_on_lane n (inputs.Replace old)) same ∙ may in
     replace_by number j old t before after told all a more steps may here m (passes_first (is_kept old node.lane.body.kept) _ _ may_own) same (next_id node.maker) refl
 
 -- ---- a board's record is changed: it is marked, or gets a circuit more
@@ -309,7 +310,7 @@ pub data ChangesOne (id : ℕ) : Input → Type 0 where
   subs_one : {place : ℕ} {barcode : Option (List ℕ)} → ChangesOne id (inputs.Sub id place barcode)
 
 -- of a board that isn't known downstream
-pub changed_untouched : {id : ℕ} {input : Input} (node : NodeState) → ChangesOne id input → may_of node input ≡ may_do → node.lane.body.outlet.touched ≡ Some id → ⊥
+pub changed_untouched : {id : ℕ} {input : Input} (node : NodeState) → ChangesOne id input → may_on_lane node input ≡ may_do → node.lane.body.outlet.touched ≡ Some id → ⊥
 changed_untouched {id = id} node marks_one may = not_touched node.lane.body.outlet.touched id (passes_second (not (is_kept id node.lane.body.kept)) (is_id node.lane.body.outlet.touched id) _ _ _ may)
 changed_untouched {id = id} node subs_one may = not_touched node.lane.body.outlet.touched id (passes_second (not (is_kept id node.lane.body.kept)) (is_id node.lane.body.outlet.touched id) _ _ _ may)
 
@@ -326,16 +327,16 @@ unjoined marks_one (inr is) = cc
 unjoined subs_one (inl is) = cc
 unjoined subs_one (inr is) = cc
 
-pub change_bears : {id : ℕ} {input : Input} (number j : ℕ) (t : Trace) (before after : LineState) (told all : List Happening) → ChangesOne id input → Around t before after all
-    → (steps : MachineSteps number (j + 1) input before after told) → may_of steps.node input ≡ may_do → Mirrors number j input t before after → Bearing after
+pub change_bears : {Left : ℕ → Type 0} {id : ℕ} {input : Input} (number j : ℕ) (t : Trace) (before after : LineState) (told all : List Happening) → ChangesOne id input → Around t before after all
+    → (steps : MachineSteps number (j + 1) input before after told) → may_on_lane steps.node input ≡ may_do → Mirrors number j input t before after → Bearing Left t after
 change_bears {input = input} number j t before after told all c a steps may m =
     let node : NodeState = m.node in
     let is : node_at before (j + 1) ≡ node = node_there (j + 1) before node m.there in
     let same : node ≡ steps.node = sym is ∙ node_there (j + 1) before steps.node steps.there in
-    let may_own : may_of node input ≡ may_do = ap (λ (n : NodeState). may_of n input) same ∙ may in
+    let may_own : may_on_lane node input ≡ may_do = ap (λ (n : NodeState). may_on_lane n input) same ∙ may in
     let goes = change_goes number j t before node m.words c a.st is (changed_untouched node c may_own) in
     step_bears number j input t before after told a.st steps may a.together a.goes.holds (λ no. unjoined c (inl no)) (λ no. unjoined c (inr no)) m goes
-    (λ t2 same. apart_stays t t2 before after all a.goes (λ k y. same k y ∙ same_gone j t k y (same_or_not k (j + 1))) (record { apart = a.st.keeps.apart; olds = a.st.olds }))
+    (λ t2 same. apart_stays t t2 before after all a.goes a.news (λ k y. same k y ∙ same_gone j t k y (same_or_not k (j + 1))) (record { apart = a.st.keeps.apart; olds = a.st.olds }))
 
 -- ---- which inputs are plain
 
@@ -399,18 +400,18 @@ no_accepted is_supervise is = absurd (cc)
 no_accepted is_ask is = absurd (cc)
 no_accepted is_answer is = absurd (cc)
 
-pub other_bears : (number j : ℕ) (input : Input) (t : Trace) (before after : LineState) (told all : List Happening) → IsPlainInput input → Around t before after all → (steps : MachineSteps number (j + 1) input before after told) → may_of steps.node input ≡ may_do
-    → Mirrors number j input t before after → Bearing after
+pub other_bears : {Left : ℕ → Type 0} (number j : ℕ) (input : Input) (t : Trace) (before after : LineState) (told all : List Happening) → IsPlainInput input → Around t before after all → (steps : MachineSteps number (j + 1) input before after told) → may_on_lane steps.node input ≡ may_do
+    → Mirrors number j input t before after → Bearing Left t after
 other_bears number j input t before after told all plain a steps may m =
     plain_bears number j input t before after told all a steps may (no_connect plain) (no_accepted plain) m (plain_event m.node.maker input m.words (scene_at t before j) plain m.heard)
 
 -- bytes are heard
-pub flow_bears : (number j : ℕ) (side : Side) (count : Option ℕ) (t : Trace) (before after : LineState) (told all : List Happening) → Around t before after all → (flows : Flows number (j + 1) side count before after told)
-    → may_of flows.steps.node (inputs.Bytes side flows.piece) ≡ may_do → Mirrors number j (inputs.Bytes side flows.piece) t before after → Bearing after
+pub flow_bears : {Left : ℕ → Type 0} (number j : ℕ) (side : Side) (count : Option ℕ) (t : Trace) (before after : LineState) (told all : List Happening) → Around t before after all → (flows : Flows number (j + 1) side count before after told)
+    → may_on_lane flows.steps.node (inputs.Bytes side flows.piece) ≡ may_do → Mirrors number j (inputs.Bytes side flows.piece) t before after → Bearing Left t after
 flow_bears number j side count t before after told all a flows may m =
     let node : NodeState = m.node in
     let is : node_at before (j + 1) ≡ node = node_there (j + 1) before node m.there in
     let goes : Steady j t before (t.gone (j + 1)) (machine_step (desk_of node (moment_of number)) (unread_by (j + 1) before.world) (Words side m.words) node.lane.body) =
     plain_keeps (desk_of node (moment_of number)) (unread_by (j + 1) before.world) (Words side m.words) node.lane.body (scene_at t before j) (plain_words m.heard) (offers_node j t before node a.st is) (good_node j t before node a.st is) in
     leaves_bear number j (inputs.Bytes side flows.piece) t before after a.st (flow_leaves number j side count t before after told a.st flows may) a.together a.goes.holds m goes
-    (λ t2 same. apart_stays t t2 before after all a.goes (λ k y. same k y ∙ same_gone j t k y (same_or_not k (j + 1))) (record { apart = a.st.keeps.apart; olds = a.st.olds }))
+    (λ t2 same. apart_stays t t2 before after all a.goes a.news (λ k y. same k y ∙ same_gone j t k y (same_or_not k (j + 1))) (record { apart = a.st.keeps.apart; olds = a.st.olds }))

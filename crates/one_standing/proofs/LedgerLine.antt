@@ -8,7 +8,6 @@ use Rattle.board_record.specs.declared.maker.IdsUsedUp.{IdsUsedUp}
 use Rattle.line_link.specs.Link.{connected_of}
 use Rattle.line_link.specs.declared.link.Connected.{Connected}
 use Rattle.line_link.specs.declared.link.Connected.TheVariants as connections
-use Rattle.line_script.specs.declared.line.ScriptLine.{ScriptLine}
 use Rattle.node_core.specs.Event.{Event, Insert, Replace, event_of, maker_after, with_new}
 use Rattle.node_core.specs.Node.{NodeState, desk_of, new_node}
 use Rattle.node_core.specs.Own.{own_of}
@@ -31,20 +30,24 @@ use Rattle.line_step.specs.Steps.{MachineSteps, is_second, moment_of, read_by, u
 use Rattle.line_step.specs.World.{link_at}
 use Rattle.line_step.proofs.Changing.{more_changes, step_changes}
 use Rattle.line_step.proofs.FloorLaws.{steps-goes, plain_of, IsNew, new_by}
-use Rattle.line_step.proofs.Makers.{AreNumbered, IsOld, numbered-at, old-apart, old-new}
+use Rattle.line_step.specs.Made.{IsOld}
+use Rattle.line_step.proofs.Makers.{AreNumbered, numbered-at, old-apart, old-new}
 use Rattle.line_step.proofs.Numbers.{machine_set_own, machine_within, same_or_not}
 use Rattle.one_standing.specs.Carried.{Trace}
 use Rattle.one_standing.specs.Replay.{deeds_of}
 use Rattle.one_standing.specs.Stands.{Stands}
-use Rattle.one_standing.proofs.LedgerMarks.{FitsLine, differ_of, taken_old}
-use Rattle.one_standing.proofs.LedgerSteps.{IsMadeNow, all_of, deeds_by, did_goes, silent_behind, tells_deeds}
+use Rattle.one_standing.proofs.LedgerMarks.{FitsLine, differ_of, mark_old, taken_old}
+use Rattle.one_standing.proofs.MarksOf.{has_kept, id_kept}
+use Rattle.standings.specs.declared.mark.Mark.TheVariants as marks
+use Rattle.line_step.specs.Tracks.{ComesFromElsewhere}
+use Rattle.one_standing.proofs.LedgerSteps.{Ends, IsMadeNow, all_of, deeds_by, did_goes, kept_different, silent_behind, tells_deeds}
 use Rattle.one_standing.proofs.LedgerTold.{acts_deeds, deeds_join, no_acts_deeds, remarks_none}
 use Rattle.one_standing.proofs.LedgerTurns.{Fits, Follows, after_append, entry_at, legal_append}
 use Rattle.one_standing.proofs.LedgerWalk.{Did, IsNewFor, step_did}
 use Rattle.node_core.specs.Signals.{signalled}
 use Rattle.one_standing.proofs.Signalled.{signals_silent}
 use Rattle.line_step.proofs.Remarks.{all_pass, standings_remarks}
-use Rattle.line_step.proofs.Requests.{Request, added_told, request_of}
+use Rattle.line_step.specs.Requests.{Request, added_told}
 use Rattle.line_step.proofs.Effects.{added_remarks}
 use Rattle.line_step.proofs.Turns.{LineTurns, line_turns}
 use Rattle.line_step.proofs.Turns as turns
@@ -136,9 +139,9 @@ step_deeds number machine input before after told steps =
     (plain_of number machine input before after told steps)
 
 machine_led : {Older Old : ℕ → Type 0} (number machine : ℕ) (input : Input) (before after : LineState) (told : List Happening) → ((x : ℕ) → Older x → Old x) → (steps : MachineSteps number machine input before after told)
-    → IsNewInput (IsMadeNow Older Old) input steps.node.maker → are_different (all_of (own_of (node_at before machine).lane.body)) ≡ true → ((id : ℕ) → (own_of (node_at after machine).lane.body).taking ≡ Some id → Old id)
+    → IsNewInput (IsMadeNow Older Old) input steps.node.maker → are_different (all_of (own_of (node_at before machine).lane.body)) ≡ true → Ends Old (own_of (node_at after machine).lane.body)
     → (ledger : Ledger) → FitsLine Older before ledger → Led Old after ledger told
-machine_led {Older} {Old} number machine input before after told more steps new different taken ledger fits =
+machine_led {Older} {Old} number machine input before after told more steps new different ends ledger fits =
     let others : Where → ℕ → ℕ → Bool = λ place other x. has_at place (owned_by (node_at before other)) x in
     let node_is : node_at before machine ≡ steps.node = node_there machine before steps.node steps.there in
     let next_is : node_at after machine ≡ steps.next = node_there machine after steps.next (ap (machine_in machine) steps.after_is ∙ machine_set_own machine before steps.node steps.next steps.there) in
@@ -155,7 +158,7 @@ machine_led {Older} {Old} number machine input before after told more steps new 
     let here : Fits Older machine (own_of (node_at before machine).lane.body) others ledger =
     record { past = fits.past; is = fits.is; here = λ place x. fits.all place machine x; there = λ place other x apart. fits.all place other x; olds = fits.olds } in
     let follows : Follows Old machine (own_of (node_at after machine).lane.body) others ledger
-    (deeds_by machine plain) = did_goes at more does different taken ledger here in
+    (deeds_by machine plain) = did_goes at more does different ends ledger here in
     let same : deeds_of told ≡ deeds_by machine plain =
     ap deeds_of steps.told_is ∙ acts_deeds (is_second input) machine steps.acts
     (read_by machine before.world)
@@ -215,11 +218,11 @@ made_here number (suc place) input before after told steps own makes id is =
 
 -- ---- the forms
 
--- what a line is done in, and what holds behind it: a machine's ids differ before it, what an intake takes behind it is
--- old, and what was old stays so
+-- what a line is done in, and what holds behind it: a machine's ids differ before it, what a machine has behind it is old
+-- and differs, and what was old stays so
 record Around (before next : LineState) : Type 0 where
   different : (machine : ℕ) → are_different (all_of (own_of (node_at before machine).lane.body)) ≡ true
-  taken : (machine id : ℕ) → (own_of (node_at next machine).lane.body).taking ≡ Some id → IsOld 1 next.machines id
+  ends : (machine : ℕ) → Ends (IsOld 1 next.machines) (own_of (node_at next machine).lane.body)
   own : AreNumbered 1 before.machines
   olds : (x : ℕ) → IsOld 1 before.machines x → IsOld 1 next.machines x
 
@@ -240,7 +243,7 @@ input_new number machine _ before next told a steps = tt
 flows_led : (number machine : ℕ) (side : Side) (count : Option ℕ) (before next : LineState) (told : List Happening) (ledger : Ledger) → Around before next → Flows number machine side count before next told → LedLine before next ledger told
 flows_led number machine side count before next told ledger a flows fits =
     let start : LineState = arrived machine side count before in
-    machine_led number machine (inputs.Bytes side flows.piece) start next told a.olds flows.steps tt (ap (λ (n : NodeState). are_different (all_of (own_of n.lane.body))) (same_nodes before start refl machine) ∙ a.different machine) (a.taken machine) ledger
+    machine_led number machine (inputs.Bytes side flows.piece) start next told a.olds flows.steps tt (ap (λ (n : NodeState). are_different (all_of (own_of n.lane.body))) (same_nodes before start refl machine) ∙ a.different machine) (a.ends machine) ledger
     (fits_same before start ledger (own_nodes before start refl) (λ x old. old) fits)
 
 met_new : (New : ℕ → Type 0) (on : Connected) (maker : Maker) → IsNewInput New (met on) maker
@@ -262,10 +265,10 @@ connects_led number machine before next told ledger a twice fits =
     let above : node_at twice.between (machine - 1) ≡ node_at before (machine - 1) = ap (λ (s : Stand). s.node) (early.machines (machine - 1) beside) ∙ same_nodes before start refl (machine - 1) in
     let one : Led Old twice.between ledger twice.earlier =
     machine_led number machine inputs.Connect start twice.between twice.earlier a.olds twice.first tt (ap (λ (n : NodeState). are_different (all_of (own_of n.lane.body))) (same_nodes before start refl machine) ∙ a.different machine)
-    (λ id is. a.taken machine id (ap (λ (n : NodeState). (own_of n.lane.body).taking) here ∙ is)) ledger (fits_same before start ledger (own_nodes before start refl) (λ x old. old) fits) in
+    (subst (λ (n : NodeState). Ends Old (own_of n.lane.body)) here (a.ends machine)) ledger (fits_same before start ledger (own_nodes before start refl) (λ x old. old) fits) in
     let two : Led Old next (ledger_after_all ledger (deeds_of twice.earlier)) twice.later =
     machine_led number (machine - 1) (met on) twice.between next twice.later (λ x old. old) twice.second (met_new (IsMadeNow Old Old) on twice.second.node.maker) (ap (λ (n : NodeState). are_different (all_of (own_of n.lane.body))) above ∙ a.different (machine - 1))
-    (a.taken (machine - 1)) (ledger_after_all ledger (deeds_of twice.earlier)) one.fits in
+    (a.ends (machine - 1)) (ledger_after_all ledger (deeds_of twice.earlier)) one.fits in
     led_told told (twice.earlier ++ twice.later) (ap deeds_of twice.told_is) (led_both twice.earlier twice.later one two)
 
 -- ---- one machine more
@@ -278,45 +281,53 @@ pub no_last : (nodes : List NodeState) → slice_index_or nodes (length nodes) n
 no_last [] = refl
 no_last (node ∷ nodes) = no_last nodes
 
-more_own : (is_bridge : Bool) (capacity used : ℕ) (s : LineState) → OwnSame s (one_more is_bridge capacity used s)
-more_own is_bridge capacity used s machine = by (same_or_not machine (length s.machines + 1)) where
-  new : (n : ℕ) → n ≡ length s.machines → owned_by (slice_index_or (one_more is_bridge capacity used s).machines n no_node) ≡ owned_by (slice_index_or s.machines n no_node)
-  new n is = rw is (rw (last_node s.machines (new_node (profile_of is_bridge (length s.machines + 1) capacity used)), no_last s.machines) refl)
+more_own : (lane : ℕ) (is_bridge : Bool) (capacity used : ℕ) (s : LineState) → OwnSame s (one_more lane is_bridge capacity used s)
+more_own lane is_bridge capacity used s machine = by (same_or_not machine (length s.machines + 1)) where
+  new : (n : ℕ) → n ≡ length s.machines → owned_by (slice_index_or (one_more lane is_bridge capacity used s).machines n no_node) ≡ owned_by (slice_index_or s.machines n no_node)
+  new n is = rw is (rw (last_node s.machines (new_node (profile_of lane is_bridge (length s.machines + 1) capacity used)), no_last s.machines) refl)
 
-  by : (machine ≡ length s.machines + 1) ⊎ (machine ≢ length s.machines + 1) → owned_by (node_at (one_more is_bridge capacity used s) machine) ≡ owned_by (node_at s machine)
+  by : (machine ≡ length s.machines + 1) ⊎ (machine ≢ length s.machines + 1) → owned_by (node_at (one_more lane is_bridge capacity used s) machine) ≡ owned_by (node_at s machine)
   by (inl is) =
       let next : machine ≡ suc (length s.machines) = omega (arith, is) in
-      subst (λ (m : ℕ). owned_by (node_at (one_more is_bridge capacity used s) m) ≡ owned_by (node_at s m)) (sym next) (new (length s.machines) refl)
-  by (inr apart) = ap (λ (x : Stand). owned_by x.node) ((more_changes is_bridge capacity used s).machines machine apart)
+      subst (λ (m : ℕ). owned_by (node_at (one_more lane is_bridge capacity used s) m) ≡ owned_by (node_at s m)) (sym next) (new (length s.machines) refl)
+  by (inr apart) = ap (λ (x : Stand). owned_by x.node) ((more_changes lane is_bridge capacity used s).machines machine apart)
 
 -- ---- each form
 
 turns_led : (number : ℕ) (request : Request) (before next : LineState) (told : List Happening) (ledger : Ledger) → Around before next → LineTurns number before next told request → LedLine before next ledger told
 turns_led number request before next told ledger a (turns.stays _ same none) fits = still_led before next ledger told (own_nodes before next same) (all_pass told no_acts_deeds none) a.olds fits
-turns_led number request before next told ledger a (turns.adds is_bridge capacity used may b) fits =
-    becomes_led before (one_more is_bridge capacity used before) next (added_told is_bridge capacity before) told ledger a b (more_own is_bridge capacity used before) (remarks_none _ (added_remarks is_bridge capacity before)) fits
+turns_led number request before next told ledger a (turns.adds lane is_bridge capacity used may b) fits =
+    becomes_led before (one_more lane is_bridge capacity used before) next (added_told is_bridge capacity before) told ledger a b (more_own lane is_bridge capacity used before) (remarks_none _ (added_remarks is_bridge capacity before)) fits
 turns_led number request before next told ledger a (turns.steps machine input given may did) fits =
-    machine_led number machine input before next told a.olds did (input_new number machine input before next told a did) (a.different machine) (a.taken machine) ledger fits
+    machine_led number machine input before next told a.olds did (input_new number machine input before next told a did) (a.different machine) (a.ends machine) ledger fits
 turns_led number request before next told ledger a (turns.connects machine may did) fits = connects_led number machine before next told ledger a did fits
 turns_led number request before next told ledger a (turns.flows machine side count may did) fits = flows_led number machine side count before next told ledger a did fits
 
 -- ---- THE LINE
 
-around_of : (t t2 : Trace) (number : ℕ) (line : ScriptLine) (before after : LineState) (told : List Happening) → Stands t before → Stands t2 after → (steps : LineSteps number line before after told) → Around before steps.next
-around_of t t2 number line before after told st st2 steps =
+ends_of : {t : Trace} {s : LineState} (machine : ℕ) → Stands t s → Ends (IsOld 1 s.machines) (own_of (node_at s machine).lane.body)
+ends_of {s = s} machine st = record {
+  different = kept_different (own_of (node_at s machine).lane.body) (differ_of machine st);
+  kept = λ id has. mark_old {mark = marks.Kept machine} st (has_kept (id_kept id (node_at s machine).lane.body.kept has));
+  taken = λ id is. taken_old machine id st is;
+}
+
+around_of : (t t2 : Trace) (number : ℕ) (request : Request) (before after : LineState) (told : List Happening) → Stands t before → Stands t2 after → ComesFromElsewhere request before → (steps : LineSteps number request before after told) → Around before steps.next
+around_of t t2 number request before after told st st2 from steps =
     let same : after.machines ≡ steps.next.machines = ap (λ (s : LineState). s.machines) steps.after_is in
     record {
       different = λ machine. differ_of machine st;
-      taken = λ machine id is. subst (λ (ns : List NodeState). IsOld 1 ns id) same (taken_old machine id st2 (ap (λ (n : NodeState). (own_of n.lane.body).taking) (same_nodes steps.next after same machine) ∙ is));
+      ends = λ machine. subst (λ (n : NodeState). Ends (IsOld 1 steps.next.machines) (own_of n.lane.body)) (same_nodes steps.next after same machine)
+          (subst (λ (ns : List NodeState). Ends (IsOld 1 ns) (own_of (node_at after machine).lane.body)) same (ends_of machine st2));
       own = st.ids.own;
-      olds = λ x old. subst (λ (ns : List NodeState). IsOld 1 ns x) same ((steps-goes number line before after told st.ids steps).olds x old);
+      olds = λ x old. subst (λ (ns : List NodeState). IsOld 1 ns x) same ((steps-goes number request before after told st.ids from steps).olds x old);
     }
 
-pub line_led : (t t2 : Trace) (number : ℕ) (line : ScriptLine) (before after : LineState) (told : List Happening) (ledger : Ledger) → Stands t before → Stands t2 after → LineSteps number line before after told
+pub line_led : (t t2 : Trace) (number : ℕ) (request : Request) (before after : LineState) (told : List Happening) (ledger : Ledger) → Stands t before → Stands t2 after → ComesFromElsewhere request before → LineSteps number request before after told
     → FitsLine (IsOld 1 before.machines) before ledger → Led (IsOld 1 after.machines) after ledger told
-line_led t t2 number line before after told ledger st st2 steps fits =
+line_led t t2 number request before after told ledger st st2 from steps fits =
     let same : after.machines ≡ steps.next.machines = ap (λ (s : LineState). s.machines) steps.after_is in
-    let led : Led (IsOld 1 steps.next.machines) steps.next ledger steps.done = turns_led number (request_of line) before steps.next steps.done ledger (around_of t t2 number line before after told st st2 steps) (line_turns number line before steps.next steps.done steps.does) fits in
+    let led : Led (IsOld 1 steps.next.machines) steps.next ledger steps.done = turns_led number request before steps.next steps.done ledger (around_of t t2 number request before after told st st2 from steps) (line_turns number request before steps.next steps.done steps.does) fits in
     let none : deeds_of told ≡ deeds_of steps.done = ap deeds_of steps.told_is ∙ deeds_join steps.done (standings_told before steps.next) ∙ ap (λ (ds : List Deed). deeds_of steps.done ++ ds) (remarks_none (standings_told before steps.next) (standings_remarks before steps.next)) ∙ append-nil (deeds_of steps.done) in
     led_told told steps.done none (record {
       legal = led.legal;

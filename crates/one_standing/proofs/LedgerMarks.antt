@@ -20,7 +20,7 @@ use Rattle.standings.specs.declared.mark.Mark.TheVariants as marks
 use Rattle.standings.proofs.Machines.{marks_are_found}
 use Rattle.line_step.specs.Numbered.{node_at}
 use Rattle.line_step.specs.State.{LineState, marks_in, owned_by}
-use Rattle.line_step.proofs.Makers.{IsOld}
+use Rattle.line_step.specs.Made.{IsOld}
 use Rattle.one_standing.specs.Carried.{Trace, between_of, stand_of}
 use Rattle.one_standing.specs.Places.{LiesAt, Spot, at_machine, in_gap, lies_at, lies_in}
 use Rattle.one_standing.specs.Replay.{IsLedgerOf}

@@ -11,7 +11,7 @@ use Rattle.one_standing.specs.Carried.{Trace}
 use Rattle.one_standing.specs.Stands.{Stands}
 use Rattle.one_standing.proofs.Beside.{beside_led}
 use Rattle.line_step.specs.State.{LineState, no_line, owned_by}
-use Rattle.line_step.proofs.Makers.{IsOld}
+use Rattle.line_step.specs.Made.{IsOld}
 use Rattle.one_standing.specs.Facts.{CustodyFacts, HasCustodyFacts}
 use Rattle.one_standing.specs.Replay.{Follows, LedgerFollows, deeds_of}
 use Rattle.one_standing.proofs.FactsOf.{facts_of}
@@ -44,7 +44,7 @@ none_fits = record { past = []; is = refl; all = λ place machine x. none_has pl
 -- what a line of a track tells
 pub track_led : (t t2 : Trace) (number : ℕ) (line : TrackLine) (before after : LineState) (told : List Happening) (ledger : Ledger) → Stands t before → Stands t2 after → TrackSteps number line before after told
     → FitsLine (IsOld 1 before.machines) before ledger → Led (IsOld 1 after.machines) after ledger told
-track_led t t2 number (own_line line) before after told ledger st st2 steps fits = line_led t t2 number line before after told ledger st st2 steps fits
+track_led t t2 number (own_line line) before after told ledger st st2 steps fits = line_led t t2 number line before after told ledger st st2 steps.1 steps.0 fits
 track_led t t2 number other_line before after told ledger st st2 steps fits = beside_led before after told ledger steps.0 steps.1 fits
 
 ledger_run : (s : LineState) (asked : List TrackLine) (points : List Point) (n : ℕ) (ledger : Ledger) → Stood s → IsRun s asked points → AreStood (take n points) → FitsLine (IsOld 1 s.machines) s ledger → Follows ledger (take n points)
@@ -64,4 +64,4 @@ custody_facts alone connects asked points n fit few run honest = facts_run alone
 
 -- from the empty ledger on
 pub ledger_follows : SaysAlone → ConnectsBear → LedgerFollows
-ledger_follows alone connects asked points n fit few run honest = ledger_run no_line asked points n empty_ledger none_stood run (run_stood alone connects no_line asked points n fit few none_stood run honest) none_fits
+ledger_follows alone connects asked points n fit few run honest = ledger_run no_line asked points n empty_ledger none_stood.stood run (run_stood alone connects no_line asked points n fit few none_stood run honest) none_fits

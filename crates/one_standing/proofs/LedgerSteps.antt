@@ -1,6 +1,7 @@
 -- The deeds of a machine's step are legal in a ledger that has its marks, and leave it with those behind the step.
 use Rattle.std.proofs.Common.{Bool, List, None, Option, Some, [], ap, append-nil, append_assoc, eq-eqb, eqb-true, false, not, refl, subst, sym, true, ℕ, ◌&&◌, ◌++◌, ◌+◌, ◌-◌, ◌==◌, ◌||◌, ◌∙◌, ◌∷◌, ◌≡◌, ◌≢◌}
-use Rattle.std.proofs.lemmas.Bool.{or_parts, and_parts}
+use Rattle.std.proofs.lemmas.Bool.{or_left, or_parts, or_right, and_parts}
+use Rattle.std.proofs.lemmas.List.Folds.{list_any-append}
 use Rattle.line_step.proofs.Unnamed.{apart_ids}
 use Rattle.node_core.specs.Own.{Own, one_of}
 use Rattle.node_core.specs.declared.act.Act.{Act}
@@ -19,7 +20,7 @@ use Rattle.standings.specs.declared.mark.Mark.TheVariants.{Intake, Kept}
 use Rattle.standings.proofs.Ids.{marks_are_seen}
 use Rattle.one_standing.specs.Replay.{deeds_at, deeds_at_side}
 use Rattle.one_standing.proofs.LedgerTurns.{Fits, Follows, different_first, different_rest, entry_at, follows_both, follows_none, follows_one, owned, spot, turns_drops, turns_inserts, turns_leaves, turns_opens, turns_removes, turns_replaces, turns_returns, turns_settles, turns_starts}
-use Rattle.one_standing.proofs.LedgerWalk.{Announces, Did, Hand, Walk, are_silent, did, hand_inserts, hand_removes, hand_replaces, hand_walks, is_refusal, is_silent, own_parts, says_last, says_more, says_start, walk_drops, walk_end, walk_leaves, walk_loses, walk_on, walk_opens, walk_returns, walk_settles}
+use Rattle.one_standing.proofs.LedgerWalk.{Announces, Did, Hand, Walk, are_silent, did, hand_gets, hand_gives, hand_inserts, hand_removes, hand_replaces, hand_walks, is_refusal, is_silent, own_parts, says_last, says_more, says_start, walk_drops, walk_end, walk_leaves, walk_loses, walk_on, walk_opens, walk_returns, walk_settles}
 
 -- the deeds of a machine's acts
 abbrev pub deeds_by : ℕ → List Act → List Deed
@@ -41,6 +42,8 @@ no_deed machine (acts.Deed deed) is = no_deed_by machine deed is
 no_deed machine (acts.Inserts id) is = absurd (let h : false ≡ true = is in cc)
 no_deed machine (acts.Removes id) is = absurd (let h : false ≡ true = is in cc)
 no_deed machine (acts.Replaces old new) is = absurd (let h : false ≡ true = is in cc)
+no_deed machine (acts.Gives id to) is = absurd (let h : false ≡ true = is in cc)
+no_deed machine (acts.Gets id) is = absurd (let h : false ≡ true = is in cc)
 no_deed machine _ is = refl
 
 no_deeds : (machine : ℕ) (told others : List Act) → are_silent told ≡ true → deeds_by machine (told ++ others) ≡ deeds_by machine others
@@ -206,16 +209,31 @@ none_yet {Older} {Old} id ids new was = none_by (has_id id ids) refl where
   none_by false is = refl
   none_by true is = absurd (new.apart id (was is) refl)
 
-hand_goes : {Older Old : ℕ → Type 0} {machine : ℕ} {own end : Own} {told : List Act} {others : Where → ℕ → ℕ → Bool} → machine - 1 + 1 ≡ machine → ((x : ℕ) → Older x → Old x) → Hand (IsMadeNow Older Old) own told end → are_different (all_of own) ≡ true
+-- what a machine has behind a step is old, and what it keeps differs
+pub record Ends (Old : ℕ → Type 0) (end : Own) : Type 0 where
+  pub different : are_different end.kept ≡ true
+  pub kept : (id : ℕ) → has_id id end.kept ≡ true → Old id
+  pub taken : (id : ℕ) → end.taking ≡ Some id → Old id
+
+has_last : (id : ℕ) (ids : List ℕ) → has_id id (ids ++ id ∷ []) ≡ true
+has_last id ids = list_any-append (λ (other : ℕ). other == id) ids (id ∷ []) ∙ or_right (has_id id ids) ((id == id) || false) (or_left (id == id) false (eq-eqb id id refl))
+
+hand_goes : {Older Old : ℕ → Type 0} {machine : ℕ} {own end : Own} {told : List Act} {others : Where → ℕ → ℕ → Bool} → machine - 1 + 1 ≡ machine → ((x : ℕ) → Older x → Old x) → Hand (IsMadeNow Older Old) own told end → are_different (all_of own) ≡ true → are_different end.kept ≡ true → ((id : ℕ) → has_id id end.kept ≡ true → Old id)
     → (ledger : Ledger) → Fits Older machine own others ledger → Follows Old machine end others ledger (deeds_by machine told)
-hand_goes at more (hand_walks walk) different ledger fits = (walk_goes at walk different ledger (older ledger more fits)).follows
-hand_goes {Older} {Old} {machine} at more (hand_inserts {id = id} {ids = ids} {held = held} {taking = taking} new) different ledger fits =
+hand_goes at more (hand_walks walk) different last old ledger fits = (walk_goes at walk different ledger (older ledger more fits)).follows
+hand_goes {Older} {Old} {machine} at more (hand_inserts {id = id} {ids = ids} {held = held} {taking = taking} new) different last old ledger fits =
     follows_one None (spot kept id) ledger (deeds.Inserts machine id) (turns_inserts id ids held taking (none_yet id ids new (old_there ledger fits kept id))) refl refl
     (ap not (none_yet id ledger.seen new (fits.olds id))) (one_named Old id new.old) (older ledger more fits)
-hand_goes {Older} {Old} {machine} at more (hand_removes {id = id} {ids = ids} {held = held} {taking = taking} has) different ledger fits =
+hand_goes {Older} {Old} {machine} at more (hand_removes {id = id} {ids = ids} {held = held} {taking = taking} has) different last old ledger fits =
     follows_one (spot kept id) None ledger (deeds.Removes machine id) (turns_removes id ids held taking (kept_different (own_parts ids held taking) different) has) refl refl
     refl (one_named Old id (more id (old_there ledger fits kept id has))) (older ledger more fits)
-hand_goes {Older} {Old} {machine} at more (hand_replaces {old = old} {new = now} {ids = ids} {held = held} {taking = taking} has new) different ledger fits =
+hand_goes {Older} {Old} {machine} at more (hand_gives {id = id} {ids = ids} {held = held} {taking = taking} has) different last old ledger fits =
+    follows_one (spot kept id) None ledger (deeds.Removes machine id) (turns_removes id ids held taking (kept_different (own_parts ids held taking) different) has) refl refl
+    refl (one_named Old id (more id (old_there ledger fits kept id has))) (older ledger more fits)
+hand_goes {Older} {Old} {machine} at more (hand_gets {id = id} {ids = ids} {held = held} {taking = taking}) different last old ledger fits =
+    follows_one None (spot kept id) ledger (deeds.Comes machine id) (turns_inserts id ids held taking (last_none id ids last)) refl refl
+    refl (one_named Old id (old id (has_last id ids))) (older ledger more fits)
+hand_goes {Older} {Old} {machine} at more (hand_replaces {old = old} {new = now} {ids = ids} {held = held} {taking = taking} has new) different last was ledger fits =
     follows_one (spot kept old) (spot kept now) ledger (deeds.Replaces machine old now) (turns_replaces old now ids held taking (kept_different (own_parts ids held taking) different) has (none_yet now ids new (old_there ledger fits kept now))) refl refl
     (ap not (none_yet now ledger.seen new (fits.olds now))) (two_named Old old now (more old (old_there ledger fits kept old has)) new.old) (older ledger more fits)
 
@@ -231,14 +249,21 @@ says_goes {Old} {machine} {end = end} {others = others} at (says_start {id = id}
     subst (λ (ds : List Deed). Follows Old machine end others ledger (deeds.Starts (machine - 1) id ∷ ds)) (sym (none_silent machine more silent))
     (follows_one None (spot intake id) ledger (deeds.Starts (machine - 1) id) (turns_starts id ids held) refl (entry_gap machine id at) refl (one_named Old id (old id refl)) fits)
 
+-- they keep what is kept
+says_kept : {own end : Own} {told : List Act} → Announces own told end → end.kept ≡ own.kept
+says_kept (says_more told more silent says) = says_kept says
+says_kept (says_last silent) = refl
+says_kept (says_start silent) = refl
+
 -- ---- the step
 
 pub did_goes : {Older Old : ℕ → Type 0} {machine : ℕ} {own end : Own} {told : List Act} {others : Where → ℕ → ℕ → Bool} → machine - 1 + 1 ≡ machine → ((x : ℕ) → Older x → Old x) → Did (IsMadeNow Older Old) own told end → are_different (all_of own) ≡ true
-    → ((id : ℕ) → end.taking ≡ Some id → Old id) → (ledger : Ledger) → Fits Older machine own others ledger → Follows Old machine end others ledger (deeds_by machine told)
-did_goes {Older} {Old} {machine} {end = end} {others = others} at more (did read met told walk hand says) different old ledger fits =
+    → Ends Old end → (ledger : Ledger) → Fits Older machine own others ledger → Follows Old machine end others ledger (deeds_by machine told)
+did_goes {Older} {Old} {machine} {end = end} {others = others} at more (did read met told walk hand says) different ends ledger fits =
     let one = walk_goes at walk different ledger fits in
-    let two = hand_goes at more hand one.different (ledger_after_all ledger (deeds_by machine read)) one.follows.fits in
-    let three = says_goes at says old (ledger_after_all (ledger_after_all ledger (deeds_by machine read)) (deeds_by machine met)) two.fits in
+    let same = says_kept says in
+    let two = hand_goes at more hand one.different (ap are_different (sym same) ∙ ends.different) (λ id has. ends.kept id (ap (has_id id) same ∙ has)) (ledger_after_all ledger (deeds_by machine read)) one.follows.fits in
+    let three = says_goes at says ends.taken (ledger_after_all (ledger_after_all ledger (deeds_by machine read)) (deeds_by machine met)) two.fits in
     let last = follows_both (ledger_after_all ledger (deeds_by machine read)) (deeds_by machine met) (deeds_by machine told) two three in
     subst (λ (ds : List Deed). Follows Old machine end others ledger ds) (sym (deeds_append machine read (met ++ told) ∙ ap (λ (ds : List Deed). deeds_by machine read ++ ds) (deeds_append machine met told)))
     (follows_both ledger (deeds_by machine read) (deeds_by machine met ++ deeds_by machine told) one.follows last)

@@ -116,7 +116,7 @@ use Rattle.node_core.specs.Announces.{
   start,
   announces,
 }
-use Rattle.node_core.specs.Event.{Event, Insert, Remove, Replace, event_did}
+use Rattle.node_core.specs.Event.{Event, Gets, Gives, Insert, Remove, Replace, event_did}
 use Rattle.node_core.specs.Step.{plain_step}
 use Rattle.node_core.specs.Supervising.{with_tells}
 use Rattle.node_core.specs.declared.supervising.Watch.{Watch}
@@ -138,6 +138,8 @@ use Rattle.step_rules.specs.Causes.{
   Tells as TellsAct,
   ToIntake,
   ToOutlet,
+  hand_gets as by_get,
+  hand_gives as by_give,
   hand_inserts as by_insert,
   hand_removes as by_remove,
   hand_replaces as by_replace,
@@ -195,6 +197,8 @@ is_silent (acts.Deed deed) = is_refusal deed
 is_silent (acts.Inserts id) = false
 is_silent (acts.Removes id) = false
 is_silent (acts.Replaces old new) = false
+is_silent (acts.Gives id to) = false
+is_silent (acts.Gets id) = false
 is_silent _ = true
 
 abbrev pub are_silent : List Act → Bool
@@ -224,11 +228,14 @@ pub data Walk : Own → List Act → Own → Type 0 where
   walk_settles : {id : ℕ} {ids : List ℕ} {held : Option ℕ} {others : List Act} {end : Own} → Walk (own_parts (ids ++ id ∷ []) held None) others end → Walk (own_parts ids held (Some id)) (acts.Deed (deeds.Settles id) ∷ others) end
   walk_drops : {id : ℕ} {ids : List ℕ} {held : Option ℕ} {others : List Act} {end : Own} → Walk (own_parts ids held None) others end → Walk (own_parts ids held (Some id)) (acts.Deed (deeds.Drops id) ∷ others) end
 
--- by hand a board is put in, taken out or replaced; anything else is such a walk. `New` holds of the ids that are made
+-- by hand a board is put in, taken out or replaced, goes to another lane or comes from one; anything else is such a walk.
+-- `New` holds of the ids that are made
 pub data Hand (New : ℕ → Type 0) : Own → List Act → Own → Type 0 where
   hand_walks : {own end : Own} {told : List Act} → Walk own told end → Hand New own told end
   hand_inserts : {id : ℕ} {ids : List ℕ} {held taking : Option ℕ} → New id → Hand New (own_parts ids held taking) (acts.Inserts id ∷ []) (own_parts (ids ++ id ∷ []) held taking)
   hand_removes : {id : ℕ} {ids : List ℕ} {held taking : Option ℕ} → has_id id ids ≡ true → Hand New (own_parts ids held taking) (acts.Removes id ∷ []) (own_parts (without_id id ids) held taking)
+  hand_gives : {id to : ℕ} {ids : List ℕ} {held taking : Option ℕ} → has_id id ids ≡ true → Hand New (own_parts ids held taking) (acts.Gives id to ∷ []) (own_parts (without_id id ids) held taking)
+  hand_gets : {id : ℕ} {ids : List ℕ} {held taking : Option ℕ} → Hand New (own_parts ids held taking) (acts.Gets id ∷ []) (own_parts (ids ++ id ∷ []) held taking)
   hand_replaces : {old new : ℕ} {ids : List ℕ} {held taking : Option ℕ} → has_id old ids ≡ true → New new → Hand New (own_parts ids held taking) (acts.Replaces old new ∷ []) (own_parts (with_id_instead old new ids) held taking)
 
 -- the announcements move no record, but that a transport may start at their end
@@ -353,6 +360,10 @@ removes_by : {New : ℕ → Type 0} (id : ℕ) (body : Body) (test : Bool) → i
 removes_by id body true is = record { hand = hand_kept (without id body.kept) (id_of (held body.outlet)) (id_of (in_held body.intake)) (ids_without id body.kept) (hand_removes (sym (kept_ids id body.kept) ∙ is)) }
 removes_by id body false is = meets_walk (record { walk = walk_end })
 
+gives_by : {New : ℕ → Type 0} (id to : ℕ) (body : Body) (test : Bool) → is_kept id body.kept ≡ test → Meets New body (if_kept test (record body { kept = without id body.kept }) (acts.Gives id to) body)
+gives_by id to body true is = record { hand = hand_kept (without id body.kept) (id_of (held body.outlet)) (id_of (in_held body.intake)) (ids_without id body.kept) (hand_gives (sym (kept_ids id body.kept) ∙ is)) }
+gives_by id to body false is = meets_walk (record { walk = walk_end })
+
 replaces_by : {New : ℕ → Type 0} (desk : Desk) (old new : ℕ) (body : Body) (test : Bool) → New new → is_kept old body.kept ≡ test
     → Meets New body (if_kept test (record body { kept = with_instead old (plain_record new desk.name None) body.kept }) (acts.Replaces old new) body)
 replaces_by desk old new body true fresh is = record { hand = hand_kept (with_instead old (plain_record new desk.name None) body.kept) (id_of (held body.outlet)) (id_of (in_held body.intake)) (ids_instead old (plain_record new desk.name None) body.kept) (hand_replaces (sym (kept_ids old body.kept) ∙ is) fresh) }
@@ -373,6 +384,8 @@ Moves (Announcing starting) = ⊥
 Moves (Meeting (Insert id barcode)) = ⊥
 Moves (Meeting (Remove id)) = ⊥
 Moves (Meeting (Replace old new)) = ⊥
+Moves (Meeting (Gives id to)) = ⊥
+Moves (Meeting (Gets board)) = ⊥
 Moves (Meeting event) = Unit {0}
 
 plain_out : {cause : Cause} {body : Body} {input : OutInput} → ToOutlet cause body input
@@ -413,6 +426,8 @@ hand_walk : {desk : Desk} {event : Event} {body : Body} {kept : List Record} {ac
 hand_walk by_insert moves = absurd moves
 hand_walk (by_remove is) moves = absurd moves
 hand_walk (by_replace is) moves = absurd moves
+hand_walk (by_give is) moves = absurd moves
+hand_walk by_get moves = absurd moves
 hand_walk (hand_changes {body = body} deed) moves = changes_walk body deed
 
 walks : {desk : Desk} {cause : Cause} {body : Body} {d : Done} → Made desk cause body d
@@ -454,6 +469,12 @@ event_meets desk (Insert id barcode) body new = record {
 event_meets desk (Remove id) body new = removes_by id body (is_kept id body.kept) refl
 event_meets desk (Replace old new) body fresh =
     replaces_by desk old new body (is_kept old body.kept) fresh refl
+event_meets desk (Gives id to) body new = gives_by id to body (is_kept id body.kept) refl
+event_meets desk (Gets board) body new = record {
+  hand =
+      hand_kept (body.kept ++ board ∷ []) (id_of (held body.outlet)) (id_of (in_held body.intake))
+      (ids_behind body.kept board) hand_gets;
+}
 event_meets desk event body new = meets_walk (walks (event_made desk event body) tt)
 
 -- ---- the announcements

@@ -26,6 +26,7 @@ pub mod FactsBlame
 pub mod FactsFlight
 pub mod FactsOf
 pub mod HandSteps
+pub mod LaneSteps
 pub mod HandsThere
 pub mod LedgerLine
 pub mod LedgerMarks
@@ -36,11 +37,14 @@ pub mod LedgerTold
 pub mod LedgerTurns
 pub mod LedgerWalk
 pub mod Joints
-pub mod FitRequests
+pub mod GivenPlain
 pub mod LineForms
 pub mod LineJoins
 pub mod LineMoves
+pub mod Homes
+pub mod Away
 pub mod LineRun
+pub mod Comings
 pub mod MarksOf
 pub mod MarksPlace
 pub mod Mirroring

@@ -12,7 +12,7 @@ use Rattle.line_world.specs.declared.board.Board.{Board}
 use Rattle.handover_out.specs.declared.phase.Phase.TheVariants as out
 use Rattle.handover_in.specs.declared.phase.Phase.TheVariants as inn
 use Rattle.node_core.specs.Halves.{OffersFront}
-use Rattle.node_core.specs.May.{may_do, may_of}
+use Rattle.node_core.specs.May.{may_do, may_on_lane}
 use Rattle.node_core.specs.Node.{NodeState}
 use Rattle.node_core.specs.Sound.{IsSound}
 use Rattle.node_core.specs.declared.input.Input.{Input}
@@ -31,7 +31,7 @@ use Rattle.line_step.specs.Together.{IsLineTogether}
 use Rattle.line_step.specs.World.{link_at, with_link}
 use Rattle.line_step.proofs.Changing.{link_changes, step_changes}
 use Rattle.line_step.proofs.FloorLaws as floor
-use Rattle.line_step.proofs.Makers.{IsOld}
+use Rattle.line_step.specs.Made.{IsOld}
 use Rattle.line_step.proofs.Numbers.{floor_stays, same_or_not}
 use Rattle.one_standing.specs.Carried.{Carried, Carries, IsFitMachine, Trace, between_of, stand_of}
 use Rattle.one_standing.specs.Kept.{Keeps}
@@ -39,7 +39,7 @@ use Rattle.one_standing.specs.Mirrors.{IsReached}
 use Rattle.one_standing.specs.Relation.{scene_between}
 use Rattle.one_standing.specs.Stands.{IsAtRest, Stands}
 use Rattle.one_standing.proofs.ApartHands.{IsStill, apart_still, step_still}
-use Rattle.one_standing.proofs.ApartStep.{Parted, apart_stays}
+use Rattle.one_standing.proofs.ApartStep.{LayOn, Parted, PartedThen, apart_stays}
 use Rattle.one_standing.proofs.Behind.{AreReal, carried_behind, carried_same, carries_as, each_fit, each_machine, put_first, put_neither, put_second, same_has, stepped, stepped_same}
 use Rattle.one_standing.proofs.Ends.{no_gap_at, no_link_at}
 use Rattle.one_standing.proofs.HandSteps.{Around, Bearing}
@@ -85,8 +85,8 @@ pub record BothSteps (number j : ℕ) (t : Trace) (before between after : LineSt
   pub input : Input
   pub first : MachineSteps number (j + 1 + 1) inputs.Connect (connecting (j + 1 + 1) before) between earlier
   pub second : MachineSteps number (j + 1) input between after later
-  pub may_first : may_of first.node inputs.Connect ≡ may_do
-  pub may_second : may_of second.node input ≡ may_do
+  pub may_first : may_on_lane first.node inputs.Connect ≡ may_do
+  pub may_second : may_on_lane second.node input ≡ may_do
   pub handless : IsHandless input
   pub no_call : input ≡ inputs.Connect → has_link j between ≡ true
 
@@ -218,7 +218,7 @@ silent t2 t1 t j link d1 d2 before pick none apart at_j other_j at_k other_k was
 
 -- A CONNECTION KEEPS THE RELATION
 pub joins_bear : (number j : ℕ) (t : Trace) (before between after : LineState) (all : List Happening) → Around t before after all → has_link (j + 1) before ≡ true → length between.world.links ≡ length between.machines - 1
-    → (b : BothSteps number j t before between after) → (f : FirstStep number j t before between) → (s : SecondStep number j t before between after f) → Bearing after
+    → (b : BothSteps number j t before between after) → (f : FirstStep number j t before between) → (s : SecondStep number j t before between after f) → Bearing (LayOn before) t after
 joins_bear number j t before between after all a there together b f s =
     let st = a.st in
     let now : LineState = connecting (j + 1 + 1) before in
@@ -243,7 +243,7 @@ joins_bear number j t before between after all a there together b f s =
     let real : AreReal j after s.scene = link_real number j t before between after g.a f s (same_has (j + 1) before between many ∙ there) many later a.goes.holds a.together g.good.above_pair (λ none. rest_any t j none (λ is. is) (λ is. is)) in
     let sound2 = each_machine (λ (n : NodeState). IsSound n.capacity n.lane.body) (j + 1) between after changes2 sound1 (sound_at number j b.input between after b.later b.second b.may_second (sound1 (j + 1))) in
     let offers2 : OffersFront s.body = subst (λ (m : Machine). OffersFront m) s.is (sound2 (j + 1)).offers in
-    let parted2 : Parted t2 after = apart_stays t t2 before after all a.goes (λ k y. gone_twice j t k y (same_or_not k (j + 1)) (same_or_not k (j + 1 + 1))) parted in
+    let parted2 : PartedThen (LayOn before) t t2 after = apart_stays t t2 before after all a.goes a.news (λ k y. gone_twice j t k y (same_or_not k (j + 1)) (same_or_not k (j + 1 + 1))) parted in
     let apart_of : (link : ℕ) → has_link link before ≡ false → link ≢ j + 1 = λ link none is. false≢true (sym none ∙ ap (λ (n : ℕ). has_link n before) is ∙ there) in
     let d1 : Scene = f.scene in
     let d2 : Scene = s.scene in (
@@ -273,5 +273,6 @@ joins_bear number j t before between after all a there together b f s =
         fit = each_fit (j + 1) between after changes2 (each_fit (j + 1 + 1) before between changes st.fit f.call.fit) s.fit;
         sound = sound2;
         olds = parted2.olds;
+        was = parted2.was;
       },
     )

@@ -24,7 +24,7 @@ use Rattle.line_step.proofs.Numbers.{same_or_not}
 use Rattle.one_standing.specs.Carried.{Trace, between_of, stand_of}
 use Rattle.one_standing.specs.Places.{LiesIn, lies_begun, lies_left}
 use Rattle.one_standing.specs.Stands.{Stands}
-use Rattle.one_standing.proofs.ApartStep.{Parted, apart_stays, apart_taken, grown}
+use Rattle.one_standing.proofs.ApartStep.{LayOn, PartedThen, apart_stays, apart_taken, grown}
 use Rattle.one_standing.proofs.Behind.{Bears}
 use Rattle.one_standing.proofs.HandSteps.{Around, Bearing, grows, own_gone, no_more}
 use Rattle.one_standing.proofs.Moving.{AreTaken, IsMoved, LiftedAt, lifted_at, move_keeps}
@@ -61,13 +61,13 @@ is_moved i step t s plan spot gone st done moves =
 
 -- a move that is done keeps the relation of the line
 move_by : (i : ℕ) (step : Move) (t : Trace) (s : LineState) (plan : FloorPlan) (gone : ℕ → Bool) → Stands t s → floor_move (i + 1) step s.world.floor ≡ Ok plan → Grows (t.gone (i + 1)) gone → AreTaken gone step (gap_at s.world.floor (i + 1)).lies
-    → ((t2 : Trace) → ((k y : ℕ) → t2.gone k y ≡ put (i + 1) gone t.gone k y) → Parted t2 (with_plan plan s)) → Bearing (with_plan plan s)
+    → ((t2 : Trace) → ((k y : ℕ) → t2.gone k y ≡ put (i + 1) gone t.gone k y) → PartedThen (LayOn s) t t2 (with_plan plan s)) → Bearing (LayOn s) t (with_plan plan s)
 move_by i step t s plan gone st moves grow taken parts =
     let done : Done (i + 1) step s.world.floor plan = done_of (i + 1) step s.world.floor plan moves in
     let lifted : LiftedAt step i (stand_of s) (between_of t s) done.around = lifted_at step i (stand_of s) (between_of t s) done.around st.keeps done.row in
     let t2 : Trace = moved_trace t (i + 1) lifted.place gone in
     let now : LineState = with_plan plan s in
-    let parted : Parted t2 now = parts t2 (λ k y. refl) in (
+    let parted : PartedThen (LayOn s) t t2 now = parts t2 (λ k y. refl) in (
       t2,
       record {
         keeps = move_keeps step i (stand_of s) (between_of t s) (stand_of now) (between_of t2 now) done.around gone st.keeps done.row grow taken parted.apart lifted (is_moved i step t s plan lifted.place gone st done moves);
@@ -76,6 +76,7 @@ move_by i step t s plan gone st moves grow taken parts =
         fit = λ machine. record { body = (st.fit machine).body; maker = (st.fit machine).maker; name = (st.fit machine).name; lane = (st.fit machine).lane };
         sound = st.sound;
         olds = parted.olds;
+        was = parted.was;
       },
     )
 
@@ -100,7 +101,7 @@ pub one_board : {x y : ℕ} {lies : Gap} → LiesIn x lies → LiesIn y lies →
 one_board lies_begun lies_begun = refl
 one_board lies_left lies_left = refl
 
-take_bears : (i : ℕ) (t : Trace) (s : LineState) (plan : FloorPlan) (all : List Happening) → Around t s (with_plan plan s) all → floor_move (i + 1) moves.Take s.world.floor ≡ Ok plan → Bearing (with_plan plan s)
+take_bears : (i : ℕ) (t : Trace) (s : LineState) (plan : FloorPlan) (all : List Happening) → Around t s (with_plan plan s) all → floor_move (i + 1) moves.Take s.world.floor ≡ Ok plan → Bearing (LayOn s) t (with_plan plan s)
 take_bears i t s plan all a is_done =
     let st = a.st in
     let done : Done (i + 1) moves.Take s.world.floor plan = done_of (i + 1) moves.Take s.world.floor plan is_done in
@@ -108,16 +109,16 @@ take_bears i t s plan all a is_done =
     let lies : LiesIn x (gap_at s.world.floor (i + 1)).lies = taken_board (move_is moves.Take (around_of s.world.floor (i + 1)) done.around done.row) (st.keeps.neighbours.at (i + 1)).pair.gap in
     move_by i moves.Take t s plan (grown (i + 1) x t.gone (i + 1)) st is_done (grows (i + 1) x t.gone (i + 1))
     (λ y there. subst (λ (n : ℕ). grown (i + 1) x t.gone (i + 1) n ≡ true) (sym (one_board lies there)) (own_gone (i + 1) x t.gone))
-    (λ t2 same. apart_taken t t2 s (with_plan plan s) all (i + 1) x st.ids a.goes is_done lies (λ k y. same k y ∙ more_gone (i + 1) x t k y (same_or_not k (i + 1))) (record { apart = st.keeps.apart; olds = st.olds }))
+    (λ t2 same. apart_taken t t2 s (with_plan plan s) all (i + 1) x st.ids a.goes a.news is_done lies (λ k y. same k y ∙ more_gone (i + 1) x t k y (same_or_not k (i + 1))) (record { apart = st.keeps.apart; olds = st.olds }))
 
 -- ---- the other moves
 
-other_bears : (i : ℕ) (step : Move) (t : Trace) (s : LineState) (plan : FloorPlan) (all : List Happening) → Around t s (with_plan plan s) all → AreTaken (t.gone (i + 1)) step (gap_at s.world.floor (i + 1)).lies → floor_move (i + 1) step s.world.floor ≡ Ok plan → Bearing (with_plan plan s)
+other_bears : (i : ℕ) (step : Move) (t : Trace) (s : LineState) (plan : FloorPlan) (all : List Happening) → Around t s (with_plan plan s) all → AreTaken (t.gone (i + 1)) step (gap_at s.world.floor (i + 1)).lies → floor_move (i + 1) step s.world.floor ≡ Ok plan → Bearing (LayOn s) t (with_plan plan s)
 other_bears i step t s plan all a none is_done =
     move_by i step t s plan (t.gone (i + 1)) a.st is_done (λ x is. is) none
-    (λ t2 same. apart_stays t t2 s (with_plan plan s) all a.goes (λ k y. same k y ∙ same_gone (i + 1) t k y (same_or_not k (i + 1))) (record { apart = a.st.keeps.apart; olds = a.st.olds }))
+    (λ t2 same. apart_stays t t2 s (with_plan plan s) all a.goes a.news (λ k y. same k y ∙ same_gone (i + 1) t k y (same_or_not k (i + 1))) (record { apart = a.st.keeps.apart; olds = a.st.olds }))
 
-each_move : (i : ℕ) (step : Move) (t : Trace) (s : LineState) (plan : FloorPlan) (all : List Happening) → Around t s (with_plan plan s) all → floor_move (i + 1) step s.world.floor ≡ Ok plan → Bearing (with_plan plan s)
+each_move : (i : ℕ) (step : Move) (t : Trace) (s : LineState) (plan : FloorPlan) (all : List Happening) → Around t s (with_plan plan s) all → floor_move (i + 1) step s.world.floor ≡ Ok plan → Bearing (LayOn s) t (with_plan plan s)
 each_move i moves.Take t s plan all a is_done = take_bears i t s plan all a is_done
 each_move i moves.Begin t s plan all a is_done = other_bears i moves.Begin t s plan all a tt is_done
 each_move i moves.Left t s plan all a is_done = other_bears i moves.Left t s plan all a tt is_done
@@ -128,20 +129,20 @@ each_move i moves.HandIn t s plan all a is_done = other_bears i moves.HandIn t s
 pub less_one : (n : ℕ) → 1 ≤ n → n - 1 + 1 ≡ n
 less_one n counted = omega (arith, counted)
 
-pub move_bears : (gap : ℕ) (step : Move) (t : Trace) (s : LineState) (plan : FloorPlan) (all : List Happening) → Around t s (with_plan plan s) all → floor_move gap step s.world.floor ≡ Ok plan → Bearing (with_plan plan s)
+pub move_bears : (gap : ℕ) (step : Move) (t : Trace) (s : LineState) (plan : FloorPlan) (all : List Happening) → Around t s (with_plan plan s) all → floor_move gap step s.world.floor ≡ Ok plan → Bearing (LayOn s) t (with_plan plan s)
 move_bears gap step t s plan all a is_done =
     let done : Done gap step s.world.floor plan = done_of gap step s.world.floor plan is_done in
     let same : gap - 1 + 1 ≡ gap = less_one gap (is_gap_of s.world.floor gap done.there).counted in
     each_move (gap - 1) step t s plan all a (subst (λ (n : ℕ). floor_move n step s.world.floor ≡ Ok plan) (sym same) is_done)
 
 -- THE MOVES
-pub moves_bear : (gap : ℕ) (step : Move) (t : Trace) (s after : LineState) (told all : List Happening) → Around t s after all → (Stands t s → Bears t s) → Moves gap step s after told → Bearing after
+pub moves_bear : (gap : ℕ) (step : Move) (t : Trace) (s after : LineState) (told all : List Happening) → Around t s after all → (Stands t s → Bears (LayOn s) t t s) → Moves gap step s after told → Bearing (LayOn s) t after
 moves_bear gap step t s after told all a still is = by (floor_move gap step s.world.floor) refl
   where
-    by : (answer : Result FloorPlan MoveNo) → floor_move gap step s.world.floor ≡ answer → Bearing after
+    by : (answer : Result FloorPlan MoveNo) → floor_move gap step s.world.floor ≡ answer → Bearing (LayOn s) t after
     by (Ok plan) found =
         let same : after ≡ with_plan plan s = is.after_is ∙ ap (λ (answer : Result FloorPlan MoveNo). moved answer s) found in
-        subst (λ (l : LineState). Bearing l) (sym same) (move_bears gap step t s plan all (subst (λ (l : LineState). Around t s l all) same a) found)
+        subst (λ (l : LineState). Bearing (LayOn s) t l) (sym same) (move_bears gap step t s plan all (subst (λ (l : LineState). Around t s l all) same a) found)
     by (Err why) found =
         let same : after ≡ s = is.after_is ∙ ap (λ (answer : Result FloorPlan MoveNo). moved answer s) found in
-        subst (λ (l : LineState). Bearing l) (sym same) (t, still a.st)
+        subst (λ (l : LineState). Bearing (LayOn s) t l) (sym same) (t, still a.st)

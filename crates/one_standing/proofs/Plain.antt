@@ -6,7 +6,7 @@ use Rattle.line_link.specs.Link.{LinkParts, after_flow}
 use Rattle.line_world.specs.declared.gap.AtGap.{AtGap}
 use Rattle.node_core.specs.Done.{Done}
 use Rattle.node_core.specs.Event.{event_of}
-use Rattle.node_core.specs.May.{may_do, may_of}
+use Rattle.node_core.specs.May.{may_do, may_on_lane}
 use Rattle.node_core.specs.Node.{NodeState, desk_of}
 use Rattle.node_core.specs.Sound.{IsSound}
 use Rattle.node_core.specs.Step.{machine_step}
@@ -33,7 +33,7 @@ use Rattle.line_report.specs.declared.happening.Happening.{Happening}
 use Rattle.one_standing.specs.Carried.{Trace, between_of, stand_of}
 use Rattle.one_standing.specs.Mirrors.{IsReached, Mirrors, scene_at}
 use Rattle.one_standing.specs.Stands.{IsAtRest, Stands}
-use Rattle.one_standing.proofs.ApartStep.{Parted}
+use Rattle.one_standing.proofs.ApartStep.{PartedThen}
 use Rattle.one_standing.proofs.Behind.{AreReal, Bears, behind_step, cut_both, put_first, put_neither, put_second, same_has, stepped}
 use Rattle.one_standing.proofs.Ends.{no_gap_at, no_link_at, still_at_above, still_at_below}
 use Rattle.one_standing.proofs.RestLine.{machines_stay, node_there, stays_at_rest}
@@ -42,7 +42,7 @@ use Rattle.one_standing.proofs.Steps.{afar_of}
 use Rattle.one_standing.proofs.Traces.{put}
 
 -- a machine is sound behind a step that it may make
-pub sound_step : (number machine : ℕ) (input : Input) (before after : LineState) (told : List Happening) → (steps : MachineSteps number machine input before after told) → may_of steps.node input ≡ may_do
+pub sound_step : (number machine : ℕ) (input : Input) (before after : LineState) (told : List Happening) → (steps : MachineSteps number machine input before after told) → may_on_lane steps.node input ≡ may_do
     → IsSound steps.node.capacity steps.node.lane.body → IsSound steps.next.capacity steps.next.lane.body
 sound_step number machine input before after told steps may sound =
     sound_after steps.node steps.next (unread_by machine before.world) input (moment_of number) steps.acts may steps.steps sound
@@ -51,7 +51,7 @@ sound_step number machine input before after told steps may sound =
 pub node_next : (number machine : ℕ) (input : Input) (before after : LineState) (told : List Happening) → (steps : MachineSteps number machine input before after told) → node_at after machine ≡ steps.next
 node_next number machine input before after told steps = node_there machine after steps.next (ap (λ (s : LineState). machine_in machine s) steps.after_is ∙ machine_set_own machine before steps.node steps.next steps.there)
 
-pub sound_at : (number j : ℕ) (input : Input) (before after : LineState) (told : List Happening) → (steps : MachineSteps number (j + 1) input before after told) → may_of steps.node input ≡ may_do
+pub sound_at : (number j : ℕ) (input : Input) (before after : LineState) (told : List Happening) → (steps : MachineSteps number (j + 1) input before after told) → may_on_lane steps.node input ≡ may_do
     → IsSound (node_at before (j + 1)).capacity (node_at before (j + 1)).lane.body → IsSound (node_at after (j + 1)).capacity (node_at after (j + 1)).lane.body
 sound_at number j input before after told steps may sound =
     let was : node_at before (j + 1) ≡ steps.node = node_there (j + 1) before steps.node steps.there in
@@ -122,13 +122,13 @@ pub record Leaves (j : ℕ) (t : Trace) (before after : LineState) : Type 0 wher
   pub sound : IsSound (node_at after (j + 1)).capacity (node_at after (j + 1)).lane.body
 
 -- a step that keeps the relation of both links keeps that of the line. `gone` are the ids that are gone at the machine's exit then
-pub leaves_bear : {gone elsewhere : ℕ → Bool} (number j : ℕ) (input : Input) (t : Trace) (before after : LineState) → Stands t before → Leaves j t before after
+pub leaves_bear : {Left : ℕ → Type 0} {gone elsewhere : ℕ → Bool} (number j : ℕ) (input : Input) (t : Trace) (before after : LineState) → Stands t before → Leaves j t before after
     → IsLineTogether after → floor.Holds after
     → (m : Mirrors number j input t before after)
     → GoesBy (afar_of elsewhere (between_of t before j) gone) (stand_of before j).body.kept [] (t.ghost j) (t.ghost (j + 1)) (scene_at t before j) (done_at number j input t before m.node m.words)
-    → ((t2 : Trace) → ((k y : ℕ) → t2.gone k y ≡ put (j + 1) gone t.gone k y) → Parted t2 after)
-    → (t2 : Trace) × Bears t2 after
-leaves_bear {gone = gone} number j input t before after st l together holds m goes parts =
+    → ((t2 : Trace) → ((k y : ℕ) → t2.gone k y ≡ put (j + 1) gone t.gone k y) → PartedThen Left t t2 after)
+    → (t2 : Trace) × Bears Left t t2 after
+leaves_bear {Left = Left} {gone = gone} number j input t before after st l together holds m goes parts =
     let done : Done = done_at number j input t before m.node m.words in
     let d : Scene = scene_behind m.cuts_above m.cuts_below done.acts (scene_at t before j) in
     let g = cut_both m.cuts_above m.cuts_below goes in
@@ -138,14 +138,14 @@ leaves_bear {gone = gone} number j input t before after st l together holds m go
     (silent_up j t before g.a g.b gone m.cuts_above m.cuts_below done.acts st link none (same_or_not link j) (same_or_not link (j + 1)))
     (silent_down j t before g.a g.b gone m.cuts_above m.cuts_below done.acts st link none (same_or_not link j) (same_or_not link (j + 1)))
     (st.rest link none) in
-    let parted : Parted t2 after = parts t2 (λ k y. refl) in (
+    let parted : PartedThen Left t t2 after = parts t2 (λ k y. refl) in (
       t2,
       behind_step j t before after m.cuts_above m.cuts_below done.body done.acts st l.changes l.many m.body m.reached m.fit
           (real_behind j t t2 before after m.cuts_above m.cuts_below done.acts done.body g.a g.b st together holds l.many m.body m.reached g.good.above_pair g.good.below_pair rest)
-          l.sound g t2 refl parted.apart (λ link none. rest link (sym (same_has link before after l.many) ∙ none)) parted.olds,
+          l.sound g t2 refl parted (λ link none. rest link (sym (same_has link before after l.many) ∙ none)),
     )
 
-pub step_leaves : (number j : ℕ) (input : Input) (t : Trace) (before after : LineState) (told : List Happening) → Stands t before → (steps : MachineSteps number (j + 1) input before after told) → may_of steps.node input ≡ may_do
+pub step_leaves : (number j : ℕ) (input : Input) (t : Trace) (before after : LineState) (told : List Happening) → Stands t before → (steps : MachineSteps number (j + 1) input before after told) → may_on_lane steps.node input ≡ may_do
     → (input ≡ inputs.Connect → has_link j before ≡ true) → (input ≡ inputs.Accepted → has_link (j + 1) before ≡ true) → Leaves j t before after
 step_leaves number j input t before after told st steps may connects accepts = record {
   many = machines_stay number (j + 1) input before after told steps;
@@ -154,12 +154,12 @@ step_leaves number j input t before after told st steps may connects accepts = r
   sound = sound_at number j input before after told steps may (st.sound (j + 1));
 }
 
-pub step_bears : {gone elsewhere : ℕ → Bool} (number j : ℕ) (input : Input) (t : Trace) (before after : LineState) (told : List Happening) → Stands t before → (steps : MachineSteps number (j + 1) input before after told) → may_of steps.node input ≡ may_do
+pub step_bears : {Left : ℕ → Type 0} {gone elsewhere : ℕ → Bool} (number j : ℕ) (input : Input) (t : Trace) (before after : LineState) (told : List Happening) → Stands t before → (steps : MachineSteps number (j + 1) input before after told) → may_on_lane steps.node input ≡ may_do
     → IsLineTogether after → floor.Holds after → (input ≡ inputs.Connect → has_link j before ≡ true) → (input ≡ inputs.Accepted → has_link (j + 1) before ≡ true)
     → (m : Mirrors number j input t before after)
     → GoesBy (afar_of elsewhere (between_of t before j) gone) (stand_of before j).body.kept [] (t.ghost j) (t.ghost (j + 1)) (scene_at t before j) (done_at number j input t before m.node m.words)
-    → ((t2 : Trace) → ((k y : ℕ) → t2.gone k y ≡ put (j + 1) gone t.gone k y) → Parted t2 after)
-    → (t2 : Trace) × Bears t2 after
+    → ((t2 : Trace) → ((k y : ℕ) → t2.gone k y ≡ put (j + 1) gone t.gone k y) → PartedThen Left t t2 after)
+    → (t2 : Trace) × Bears Left t t2 after
 step_bears number j input t before after told st steps may together holds connects accepts m goes parts =
     leaves_bear number j input t before after st (step_leaves number j input t before after told st steps may connects accepts) together holds m goes parts
 
@@ -181,7 +181,7 @@ same_rest : (t : Trace) (j : ℕ) (side : Side) (count : Option ℕ) (s : LineSt
 same_rest t j side count s link r = record { outlet = r.outlet; intake = r.intake; exit = r.exit; entry = r.entry; up = r.up; down = r.down }
 
 pub flow_leaves : (number j : ℕ) (side : Side) (count : Option ℕ) (t : Trace) (before after : LineState) (told : List Happening) → Stands t before → (flows : Flows number (j + 1) side count before after told)
-    → may_of flows.steps.node (inputs.Bytes side flows.piece) ≡ may_do → Leaves j t before after
+    → may_on_lane flows.steps.node (inputs.Bytes side flows.piece) ≡ may_do → Leaves j t before after
 flow_leaves number j side count t before after told st flows may =
     let now : LineState = arrived (j + 1) side count before in
     let steps = flows.steps in

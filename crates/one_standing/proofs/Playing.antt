@@ -9,7 +9,9 @@ use Rattle.line_step.specs.State.{LineState, no_line}
 use Rattle.line_step.specs.Reasons.{May, may_cut, may_notice}
 use Rattle.line_step.specs.Parts.{IsPlay, Part, cut_where, entry_where, exit_where, lines_played, parts_of, script_parts, where_may}
 use Rattle.line_step.specs.Tracks.{TrackLine}
-use Rattle.line_step.specs.Runs.{IsRun, IsShort, Point, state_behind}
+use Rattle.line_step.specs.Homes.{AreNewcomers}
+use Rattle.line_step.specs.Runs.{IsRun, IsShort, Point, all_told, state_behind}
+use Rattle.line_step.proofs.Newcomers.{newcomers-append, run-vouched}
 use Rattle.line_step.proofs.Playing.{line-short, play-run, short-append}
 use Rattle.line_step.proofs.Running.{behind-append, run-append}
 use Rattle.one_standing.specs.Reached.{IsReached}
@@ -59,16 +61,17 @@ fit_both : (asked others : List TrackLine) → AllByRecursion IsFitTrack asked �
 fit_both [] others one two = two
 fit_both (line ∷ asked) others one two = (one.0, fit_both asked others one.1 two)
 
-pub reached_behind : (before : LineState) (asked : List TrackLine) (points : List Point) → IsReached before → AllByRecursion IsFitTrack asked → IsShort before points → IsRun before asked points → (state_behind before points).lines ≤ 1000000 → IsReached (state_behind before points)
-reached_behind before asked points was fit short run few =
+pub reached_behind : (before : LineState) (asked : List TrackLine) (points : List Point) → (was : IsReached before) → AllByRecursion IsFitTrack asked → IsShort before points → IsRun before asked points → (state_behind before points).lines ≤ 1000000 → AreNewcomers (all_told was.points) asked points → IsReached (state_behind before points)
+reached_behind before asked points was fit short run few new =
     let at : LineState → Type 0 = λ s. IsRun s asked points in
     let brief : LineState → Type 0 = λ s. IsShort s points in
     record {
       asked = was.asked ++ asked;
       points = was.points ++ points;
-      fit = fit_both was.asked asked was.fit fit;
+      fit = λ none. fit_both was.asked asked (was.fit (run-vouched before asked points run none)) fit;
       short = short-append no_line was.points points was.short (subst brief (sym was.behind) short);
       few = few;
       run = run-append no_line was.asked asked was.points points was.run (subst at (sym was.behind) run);
       behind = behind-append no_line was.points points ∙ (let same : LineState → Type 0 = λ s. state_behind s points ≡ state_behind before points in subst same (sym was.behind) refl);
+      newcomers = λ none. newcomers-append [] no_line was.asked asked was.points points was.run (was.newcomers (run-vouched before asked points run none)) new;
     }

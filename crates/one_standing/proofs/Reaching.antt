@@ -5,21 +5,24 @@ use Rattle.line_step.proofs.Counted.{steps-counts}
 use Rattle.line_step.proofs.Running.{short-more}
 use Rattle.line_world.specs.FloorPlan.{has_id}
 use Rattle.line_world.specs.declared.board.Board.{Board}
-use Rattle.line_script.specs.declared.line.ScriptLine.{ScriptLine}
 use Rattle.line_report.specs.declared.happening.Happening.{Happening}
 use Rattle.node_core.specs.Node.{NodeState}
 use Rattle.line_step.specs.Lines.{Counts, LineSteps}
-use Rattle.line_step.specs.Tracks.{TrackLine, TrackSteps, own_line}
-use Rattle.line_step.specs.Runs.{IsRun, Point, state_behind}
+use Rattle.line_step.specs.Tracks.{ComesFromElsewhere, TrackLine, TrackSteps, own_line}
+use Rattle.line_step.specs.Homes.{IsNewcomer}
+use Rattle.line_step.proofs.Newcomers.{newcomers-append}
+use Rattle.line_step.proofs.Vouching.{unvouched-before}
+use Rattle.line_step.specs.Runs.{IsRun, Point, all_told, state_behind}
 use Rattle.line_step.specs.State.{LineState, machine_in, no_line}
-use Rattle.line_step.proofs.Makers.{IsMadeBy, IsOld}
+use Rattle.line_step.specs.Requests.{Request}
+use Rattle.line_step.specs.Made.{IsMadeBy, IsOld}
 use Rattle.one_standing.specs.Reached.{HasMadeId, IsMade, IsReached}
-use Rattle.one_standing.specs.Standing.{IsFitLine, IsFitTrack}
+use Rattle.one_standing.specs.Standing.{IsFitRequest, IsFitTrack}
 
 -- ---- a line more
 
 pub none_reached : IsReached no_line
-none_reached = record { asked = []; points = []; fit = tt; short = tt; few = omega arith; run = tt; behind = refl }
+none_reached = record { asked = []; points = []; fit = λ none. tt; short = tt; few = omega arith; run = tt; behind = refl; newcomers = λ none. tt }
 
 pub fit_more : (asked : List TrackLine) (line : TrackLine) → AllByRecursion IsFitTrack asked → IsFitTrack line → AllByRecursion IsFitTrack (asked ++ line ∷ [])
 fit_more [] line fit one = (one, tt)
@@ -35,23 +38,24 @@ pub behind_more : (s : LineState) (points : List Point) (point : Point) → stat
 behind_more s [] point = refl
 behind_more s (first ∷ points) point = behind_more first.after points point
 
-pub reached_run : (line : ScriptLine) (before after : LineState) (told : List Happening) → (was : IsReached before) → LineSteps (before.lines + 1) line before after told → IsRun no_line (was.asked ++ own_line line ∷ []) (was.points ++ record { told = told; after = after } ∷ [])
-reached_run line before after told was steps =
-    run_more no_line was.asked was.points (own_line line) (record { told = told; after = after }) was.run
-    (subst (λ (s : LineState). LineSteps (s.lines + 1) line s after told) (sym was.behind) steps)
+pub reached_run : (request : Request) (before after : LineState) (told : List Happening) → (was : IsReached before) → LineSteps (before.lines + 1) request before after told → ComesFromElsewhere request before → IsRun no_line (was.asked ++ own_line request ∷ []) (was.points ++ record { told = told; after = after } ∷ [])
+reached_run request before after told was steps from =
+    run_more no_line was.asked was.points (own_line request) (record { told = told; after = after }) was.run
+    (subst (λ (s : LineState). LineSteps (s.lines + 1) request s after told × ComesFromElsewhere request s) (sym was.behind) (steps, from))
 
-pub reached_more : (line : ScriptLine) (before after : LineState) (told : List Happening) → IsReached before → IsFitLine line → before.lines + 1 ≤ 1000000 → LineSteps (before.lines + 1) line before after told → IsReached after
-reached_more line before after told was fit few steps =
+pub reached_more : (request : Request) (before after : LineState) (told : List Happening) → (was : IsReached before) → IsFitRequest request → IsNewcomer (all_told was.points) (own_line request) → ComesFromElsewhere request before → before.lines + 1 ≤ 1000000 → LineSteps (before.lines + 1) request before after told → IsReached after
+reached_more request before after told was fit new from few steps =
     let point : Point = record { told = told; after = after } in
-    let counts : Counts before.lines after.lines = steps-counts (before.lines + 1) line before after told steps in
+    let counts : Counts before.lines after.lines = steps-counts (before.lines + 1) request before after told steps in
     record {
-      asked = was.asked ++ own_line line ∷ [];
+      asked = was.asked ++ own_line request ∷ [];
       points = was.points ++ point ∷ [];
-      fit = fit_more was.asked (own_line line) was.fit fit;
+      fit = λ none. fit_more was.asked (own_line request) (was.fit (unvouched-before (before.lines + 1) request before after told steps none)) fit;
       short = short-more no_line was.points point was.short (subst (λ (s : LineState). s.lines + 1 ≤ 1000000) (sym was.behind) few);
       few = omega (arith, counts.most, few);
-      run = reached_run line before after told was steps;
+      run = reached_run request before after told was steps from;
       behind = behind_more no_line was.points point;
+      newcomers = λ none. newcomers-append [] no_line was.asked (own_line request ∷ []) was.points (point ∷ []) was.run (was.newcomers (unvouched-before (before.lines + 1) request before after told steps none)) (new, tt);
     }
 
 -- ---- the machine that made an id

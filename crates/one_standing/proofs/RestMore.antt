@@ -11,14 +11,14 @@ use Rattle.line_base.specs.Text.{IsText}
 use Rattle.line_base.proofs.Printable.{IsText-from_printable, length-decimal, plain-append, plain-decimal}
 use Rattle.line_link.specs.Flow.{coming}
 use Rattle.line_link.specs.Link.{LinkParts, no_link}
-use Rattle.line_script.specs.declared.line.ScriptLine.TheVariants as lines
 use Rattle.line_world.specs.FloorPlan.{AtMachine, IsWhole, empty_machine, free_gap, gap_at, machine_at}
 use Rattle.line_world.specs.declared.gap.AtGap.{AtGap}
 use Rattle.node_core.specs.Node.{NodeState, new_node}
 use Rattle.node_core.specs.declared.lane.Lane.{Lane}
 use Rattle.node_core.specs.Sound.{IsSound}
 use Rattle.line_report.specs.declared.happening.Happening.{Happening}
-use Rattle.line_report.specs.declared.happening.Happening.TheVariants as happenings
+use Rattle.line_step.specs.Requests.{added_told}
+use Rattle.line_step.specs.Requests as requests
 use Rattle.line_step.specs.Lines.{Becomes, LineDoes, LineSteps, Unless}
 use Rattle.line_step.specs.Numbered.{no_node, node_at}
 use Rattle.line_step.specs.Reasons.{May, has_link, may_add, may_do}
@@ -35,7 +35,6 @@ use Rattle.one_standing.specs.Carried.{Carried, Carries, IsFitMachine, Trace, be
 use Rattle.one_standing.specs.Kept.{Keeps}
 use Rattle.one_standing.specs.Relation.{Between, Stand, Neighbours, Owns}
 use Rattle.one_standing.specs.Stands.{IsAtRest, Stands}
-use Rattle.line_script.specs.declared.line.ScriptLine.{ScriptLine}
 use Rattle.node_core.specs.declared.lane.Body.{Body as Machine}
 use Rattle.one_standing.specs.Places.{LiesAt, Spot, lies_at, lies_in}
 
@@ -57,25 +56,25 @@ lane_more [] new (suc place) is = refl
 lane_more (n ∷ nodes) new zero is = refl
 lane_more (n ∷ nodes) new (suc place) is = lane_more nodes new place is
 
-lane_at : (is_bridge : Bool) (capacity used : ℕ) (s : LineState) (machine : ℕ) → lane_aside (node_at (one_more is_bridge capacity used s) machine).lane ≡ lane_aside (node_at s machine).lane
-lane_at is_bridge capacity used s zero = refl
-lane_at is_bridge capacity used s (suc place) = lane_more s.machines (new_node (profile_of is_bridge (length s.machines + 1) capacity used)) place refl
+lane_at : (lane : ℕ) (is_bridge : Bool) (capacity used : ℕ) (s : LineState) (machine : ℕ) → lane_aside (node_at (one_more lane is_bridge capacity used s) machine).lane ≡ lane_aside (node_at s machine).lane
+lane_at lane is_bridge capacity used s zero = refl
+lane_at lane is_bridge capacity used s (suc place) = lane_more s.machines (new_node (profile_of lane is_bridge (length s.machines + 1) capacity used)) place refl
 
 stand_parts : (a b : Lane) (p q : AtMachine) → lane_aside a ≡ lane_aside b → p ≡ q → ◌≡◌ {A = Stand} (record { body = will_aside a.body; place = p }) (record { body = will_aside b.body; place = q })
 stand_parts a b p q x y = ap (λ (lane : Lane). record { body = lane.body; place = p }) x ∙ ap (λ (place : AtMachine). record { body = will_aside b.body; place = place }) y
 
-stand_more : (is_bridge : Bool) (capacity used : ℕ) (s : LineState) (machine : ℕ) → stand_aside (stand_of (one_more is_bridge capacity used s) machine) ≡ stand_aside (stand_of s machine)
-stand_more is_bridge capacity used s machine =
-    stand_parts (node_at (one_more is_bridge capacity used s) machine).lane (node_at s machine).lane (machine_at (one_more is_bridge capacity used s).world.floor machine) (machine_at s.world.floor machine) (lane_at is_bridge capacity used s machine)
+stand_more : (lane : ℕ) (is_bridge : Bool) (capacity used : ℕ) (s : LineState) (machine : ℕ) → stand_aside (stand_of (one_more lane is_bridge capacity used s) machine) ≡ stand_aside (stand_of s machine)
+stand_more lane is_bridge capacity used s machine =
+    stand_parts (node_at (one_more lane is_bridge capacity used s) machine).lane (node_at s machine).lane (machine_at (one_more lane is_bridge capacity used s).world.floor machine) (machine_at s.world.floor machine) (lane_at lane is_bridge capacity used s machine)
     (number_more s.world.floor.machines machine empty_machine)
 
 between_parts : (t : Trace) (link : ℕ) (a b : LinkParts) (g h : AtGap) → a ≡ b → g ≡ h
     → ◌≡◌ {A = Between} (record { ghost = t.ghost link; stands = a.stands; gap = g; up = t.up link; down = t.down link; gone = t.gone link }) (record { ghost = t.ghost link; stands = b.stands; gap = h; up = t.up link; down = t.down link; gone = t.gone link })
 between_parts t link a b g h x y = cc
 
-between_more : (is_bridge : Bool) (capacity used : ℕ) (t : Trace) (s : LineState) (link : ℕ) → between_of t (one_more is_bridge capacity used s) link ≡ between_of t s link
-between_more is_bridge capacity used t s link =
-    between_parts t link (link_at link (one_more is_bridge capacity used s).world) (link_at link s.world) (gap_at (one_more is_bridge capacity used s).world.floor link) (gap_at s.world.floor link) (more_at is_bridge capacity used s link)
+between_more : (lane : ℕ) (is_bridge : Bool) (capacity used : ℕ) (t : Trace) (s : LineState) (link : ℕ) → between_of t (one_more lane is_bridge capacity used s) link ≡ between_of t s link
+between_more lane is_bridge capacity used t s link =
+    between_parts t link (link_at link (one_more lane is_bridge capacity used s).world) (link_at link s.world) (gap_at (one_more lane is_bridge capacity used s).world.floor link) (gap_at s.world.floor link) (more_at lane is_bridge capacity used s link)
     (more_gaps s.world.floor.machines s.world.floor.gaps link)
 
 -- ---- what holds by numbers
@@ -152,15 +151,15 @@ no_gap_at s gap holds none = loose_gap s gap holds.whole holds.many none
 
 -- ---- the bytes of the links
 
-same_carried : (is_bridge : Bool) (capacity used : ℕ) (t : Trace) (s : LineState) (link : ℕ) → Carried t s link → Carried t (one_more is_bridge capacity used s) link
-same_carried is_bridge capacity used t s link k =
-    let parts = more_at is_bridge capacity used s link in
-    let upper = lane_at is_bridge capacity used s link in
-    let lower = lane_at is_bridge capacity used s (link + 1) in
+same_carried : (lane : ℕ) (is_bridge : Bool) (capacity used : ℕ) (t : Trace) (s : LineState) (link : ℕ) → Carried t s link → Carried t (one_more lane is_bridge capacity used s) link
+same_carried lane is_bridge capacity used t s link k =
+    let parts = more_at lane is_bridge capacity used s link in
+    let upper = lane_at lane is_bridge capacity used s link in
+    let lower = lane_at lane is_bridge capacity used s (link + 1) in
     record {
-      up = subst (λ (l : LinkParts). Carries l.stands (node_at (one_more is_bridge capacity used s) link).lane.exit_bytes l.flows.to_upstream (t.up link)) (sym parts)
+      up = subst (λ (l : LinkParts). Carries l.stands (node_at (one_more lane is_bridge capacity used s) link).lane.exit_bytes l.flows.to_upstream (t.up link)) (sym parts)
           (subst (λ (lane : Lane). Carries (link_at link s.world).stands lane.exit_bytes (link_at link s.world).flows.to_upstream (t.up link)) (sym upper) k.up);
-      down = subst (λ (l : LinkParts). Carries l.stands (node_at (one_more is_bridge capacity used s) (link + 1)).lane.entry_bytes l.flows.to_downstream (t.down link)) (sym parts)
+      down = subst (λ (l : LinkParts). Carries l.stands (node_at (one_more lane is_bridge capacity used s) (link + 1)).lane.entry_bytes l.flows.to_downstream (t.down link)) (sym parts)
           (subst (λ (lane : Lane). Carries (link_at link s.world).stands lane.entry_bytes (link_at link s.world).flows.to_downstream (t.down link)) (sym lower) k.down);
     }
 
@@ -172,27 +171,27 @@ loose_carries t s link loose up down =
     let no_down : coming (link_at link s.world).flows.to_downstream ≡ [] = ap (λ (l : LinkParts). coming l.flows.to_downstream) loose in
     record { up = rw up (carries_over off no_up); down = rw down (carries_over off no_down) }
 
-carried_by : (is_bridge : Bool) (capacity used : ℕ) (t : Trace) (s : LineState) (link : ℕ) (test : Bool) → Stands t s → has_link link s ≡ test → Carried t (one_more is_bridge capacity used s) link
-carried_by is_bridge capacity used t s link true stands is = same_carried is_bridge capacity used t s link (stands.carried link is)
-carried_by is_bridge capacity used t s link false stands is =
+carried_by : (lane : ℕ) (is_bridge : Bool) (capacity used : ℕ) (t : Trace) (s : LineState) (link : ℕ) (test : Bool) → Stands t s → has_link link s ≡ test → Carried t (one_more lane is_bridge capacity used s) link
+carried_by lane is_bridge capacity used t s link true stands is = same_carried lane is_bridge capacity used t s link (stands.carried link is)
+carried_by lane is_bridge capacity used t s link false stands is =
     let rest : IsAtRest t s link = stands.rest link is in
-    loose_carries t (one_more is_bridge capacity used s) link (more_at is_bridge capacity used s link ∙ no_link_at s link stands.together is) rest.up rest.down
+    loose_carries t (one_more lane is_bridge capacity used s) link (more_at lane is_bridge capacity used s link ∙ no_link_at s link stands.together is) rest.up rest.down
 
 -- ---- the end
 
 fewer_links : (link machines : ℕ) → (nat_le 1 link && nat_lt link (machines + 1)) ≡ false → (nat_le 1 link && nat_lt link machines) ≡ false
 fewer_links link machines none = grind (arith, nat_tests)
 
-counted_more : (is_bridge : Bool) (capacity used : ℕ) (s : LineState) → length (one_more is_bridge capacity used s).machines ≡ length s.machines + 1
-counted_more is_bridge capacity used s = length-append s.machines (new_node (profile_of is_bridge (length s.machines + 1) capacity used) ∷ [])
+counted_more : (lane : ℕ) (is_bridge : Bool) (capacity used : ℕ) (s : LineState) → length (one_more lane is_bridge capacity used s).machines ≡ length s.machines + 1
+counted_more lane is_bridge capacity used s = length-append s.machines (new_node (profile_of lane is_bridge (length s.machines + 1) capacity used) ∷ [])
 
-no_link_before : (is_bridge : Bool) (capacity used : ℕ) (s : LineState) (link : ℕ) → has_link link (one_more is_bridge capacity used s) ≡ false → has_link link s ≡ false
-no_link_before is_bridge capacity used s link none = fewer_links link (length s.machines) (ap (λ (count : ℕ). nat_le 1 link && nat_lt link count) (sym (counted_more is_bridge capacity used s)) ∙ none)
+no_link_before : (lane : ℕ) (is_bridge : Bool) (capacity used : ℕ) (s : LineState) (link : ℕ) → has_link link (one_more lane is_bridge capacity used s) ≡ false → has_link link s ≡ false
+no_link_before lane is_bridge capacity used s link none = fewer_links link (length s.machines) (ap (λ (count : ℕ). nat_le 1 link && nat_lt link count) (sym (counted_more lane is_bridge capacity used s)) ∙ none)
 
-same_rest : (is_bridge : Bool) (capacity used : ℕ) (t : Trace) (s : LineState) (link : ℕ) → IsAtRest t s link → IsAtRest t (one_more is_bridge capacity used s) link
-same_rest is_bridge capacity used t s link k =
-    let upper = lane_at is_bridge capacity used s link in
-    let lower = lane_at is_bridge capacity used s (link + 1) in
+same_rest : (lane : ℕ) (is_bridge : Bool) (capacity used : ℕ) (t : Trace) (s : LineState) (link : ℕ) → IsAtRest t s link → IsAtRest t (one_more lane is_bridge capacity used s) link
+same_rest lane is_bridge capacity used t s link k =
+    let upper = lane_at lane is_bridge capacity used s link in
+    let lower = lane_at lane is_bridge capacity used s (link + 1) in
     record {
       outlet = ap (λ (lane : Lane). lane.body.outlet.phase) upper ∙ k.outlet;
       intake = ap (λ (lane : Lane). lane.body.intake.phase) lower ∙ k.intake;
@@ -204,32 +203,19 @@ same_rest is_bridge capacity used t s link k =
 
 -- ---- a line of the script that adds a machine
 
--- such a line, and what it tells
-abbrev adding : Bool → ℕ → ℕ → ScriptLine
-adding true capacity used = lines.Bridge capacity used
-adding false capacity used = lines.Machine capacity used
+adds : (lane : ℕ) (is_bridge : Bool) (capacity used : ℕ) (s : LineState) → may_add s ≡ may_do
+    → LineDoes 0 (requests.adds lane is_bridge capacity used) s (one_more lane is_bridge capacity used s) (added_told is_bridge capacity s)
+adds lane is_bridge capacity used s may =
+    let told = added_told is_bridge capacity s in
+    let done : Becomes (one_more lane is_bridge capacity used s) told (one_more lane is_bridge capacity used s) told = record { after_is = refl; told_is = refl } in
+    subst (λ (m : May). Unless m s (one_more lane is_bridge capacity used s) told (Becomes (one_more lane is_bridge capacity used s) told (one_more lane is_bridge capacity used s) told)) (sym may) done
 
-abbrev adding_told : Bool → ℕ → ℕ → List Happening
-adding_told true number capacity = happenings.Bridge number capacity ∷ []
-adding_told false number capacity = happenings.Machine number capacity ∷ []
-
-adds_by : (is_bridge : Bool) (capacity used : ℕ) (s : LineState) (told : List Happening) → may_add s ≡ may_do
-    → Unless (may_add s) s (one_more is_bridge capacity used s) told (Becomes (one_more is_bridge capacity used s) told (one_more is_bridge capacity used s) told)
-adds_by is_bridge capacity used s told may =
-    let done : Becomes (one_more is_bridge capacity used s) told (one_more is_bridge capacity used s) told = record { after_is = refl; told_is = refl } in
-    subst (λ (m : May). Unless m s (one_more is_bridge capacity used s) told (Becomes (one_more is_bridge capacity used s) told (one_more is_bridge capacity used s) told)) (sym may) done
-
-adds : (is_bridge : Bool) (capacity used : ℕ) (s : LineState) → may_add s ≡ may_do
-    → LineDoes 0 (adding is_bridge capacity used) s (one_more is_bridge capacity used s) (adding_told is_bridge (length s.machines + 1) capacity)
-adds true capacity used s may = adds_by true capacity used s (adding_told true (length s.machines + 1) capacity) may
-adds false capacity used s may = adds_by false capacity used s (adding_told false (length s.machines + 1) capacity) may
-
-more_holds : (is_bridge : Bool) (capacity used : ℕ) (s : LineState) → may_add s ≡ may_do → Holds s → Holds (one_more is_bridge capacity used s)
-more_holds is_bridge capacity used s may holds =
-    let next : LineState = one_more is_bridge capacity used s in
-    let told : List Happening = adding_told is_bridge (length s.machines + 1) capacity in
-    let steps : LineSteps 0 (adding is_bridge capacity used) s (record next { lines = next.lines + 1 }) _ = record { next = next; done = told; does = adds is_bridge capacity used s may; lines = next.lines + 1; counts = rises next.lines; after_is = refl; told_is = refl } in
-    let goes = steps-goes 0 (adding is_bridge capacity used) s (record next { lines = next.lines + 1 }) _ holds steps in
+more_holds : (lane : ℕ) (is_bridge : Bool) (capacity used : ℕ) (s : LineState) → may_add s ≡ may_do → Holds s → Holds (one_more lane is_bridge capacity used s)
+more_holds lane is_bridge capacity used s may holds =
+    let next : LineState = one_more lane is_bridge capacity used s in
+    let told : List Happening = added_told is_bridge capacity s in
+    let steps : LineSteps 0 (requests.adds lane is_bridge capacity used) s (record next { lines = next.lines + 1 }) _ = record { next = next; done = told; does = adds lane is_bridge capacity used s may; lines = next.lines + 1; counts = rises next.lines; after_is = refl; told_is = refl } in
+    let goes = steps-goes 0 (requests.adds lane is_bridge capacity used) s (record next { lines = next.lines + 1 }) _ holds tt steps in
     record { own = goes.holds.own; many = goes.holds.many; whole = goes.holds.whole; old = goes.holds.old; differ = goes.holds.differ }
 
 -- ---- a new machine's records, its name and its number are fit
@@ -256,8 +242,8 @@ pub record IsFitNode (node : NodeState) : Type 0 where
 few_numbers : (machines count : ℕ) → machines ≡ count + 1 → machines ≤ 64 → (count + 1 ≤ 65) × (count + 1 < 2 ^ 32)
 few_numbers machines count is few = (omega arith, omega arith)
 
-new_node_fits : (is_bridge : Bool) (capacity used number : ℕ) → number ≤ 65 → number < 2 ^ 32 → IsFitNode (new_node (profile_of is_bridge number capacity used))
-new_node_fits is_bridge capacity used number few small = record { body = first_body_fits is_bridge; maker = record { small = small }; name = machine_is_text number few; lane = omega arith }
+new_node_fits : (lane : ℕ) (is_bridge : Bool) (capacity used number : ℕ) → lane ≤ 4 → number ≤ 65 → number < 2 ^ 32 → IsFitNode (new_node (profile_of lane is_bridge number capacity used))
+new_node_fits lane is_bridge capacity used number early few small = record { body = first_body_fits is_bridge; maker = record { small = small }; name = machine_is_text number few; lane = omega (arith, early) }
 
 pub as_node : (s : LineState) (machine : ℕ) → IsFitMachine s machine → IsFitNode (node_at s machine)
 as_node s machine k = record { body = k.body; maker = k.maker; name = k.name; lane = k.lane }
@@ -265,42 +251,42 @@ as_node s machine k = record { body = k.body; maker = k.maker; name = k.name; la
 pub as_machine : (s : LineState) (machine : ℕ) → IsFitNode (node_at s machine) → IsFitMachine s machine
 as_machine s machine k = record { body = k.body; maker = k.maker; name = k.name; lane = k.lane }
 
-more_fit : (is_bridge : Bool) (capacity used : ℕ) (s : LineState) → IsLineTogether (one_more is_bridge capacity used s) → ((machine : ℕ) → IsFitMachine s machine) → (machine : ℕ) → IsFitMachine (one_more is_bridge capacity used s) machine
-more_fit is_bridge capacity used s together fit zero = as_machine (one_more is_bridge capacity used s) zero (as_node s zero (fit zero))
-more_fit is_bridge capacity used s together fit (suc place) =
-    let small = few_numbers (length (one_more is_bridge capacity used s).machines) (length s.machines) (counted_more is_bridge capacity used s) together.few in
-    let new : NodeState = new_node (profile_of is_bridge (length s.machines + 1) capacity used) in
-    as_machine (one_more is_bridge capacity used s) (suc place)
-    (new_fits s.machines new place IsFitNode (new_node_fits is_bridge capacity used (length s.machines + 1) small.0 small.1) (λ other. as_node s (suc other) (fit (suc other))))
+more_fit : (lane : ℕ) (is_bridge : Bool) (capacity used : ℕ) (s : LineState) → lane ≤ 4 → IsLineTogether (one_more lane is_bridge capacity used s) → ((machine : ℕ) → IsFitMachine s machine) → (machine : ℕ) → IsFitMachine (one_more lane is_bridge capacity used s) machine
+more_fit lane is_bridge capacity used s early together fit zero = as_machine (one_more lane is_bridge capacity used s) zero (as_node s zero (fit zero))
+more_fit lane is_bridge capacity used s early together fit (suc place) =
+    let small = few_numbers (length (one_more lane is_bridge capacity used s).machines) (length s.machines) (counted_more lane is_bridge capacity used s) together.few in
+    let new : NodeState = new_node (profile_of lane is_bridge (length s.machines + 1) capacity used) in
+    as_machine (one_more lane is_bridge capacity used s) (suc place)
+    (new_fits s.machines new place IsFitNode (new_node_fits lane is_bridge capacity used (length s.machines + 1) early small.0 small.1) (λ other. as_node s (suc other) (fit (suc other))))
 
 -- ---- what stands together in each machine and each link
 
-new_is_sound : (is_bridge : Bool) (capacity used number : ℕ) → IsSound capacity (new_node (profile_of is_bridge number capacity used)).lane.body
-new_is_sound is_bridge capacity used number = record { offers = tt; entry = refl; exit = refl; places = omega arith }
+new_is_sound : (lane : ℕ) (is_bridge : Bool) (capacity used number : ℕ) → IsSound capacity (new_node (profile_of lane is_bridge number capacity used)).lane.body
+new_is_sound lane is_bridge capacity used number = record { offers = tt; entry = refl; exit = refl; places = omega arith }
 
-more_sound : (is_bridge : Bool) (capacity used : ℕ) (s : LineState) → ((machine : ℕ) → IsSound (node_at s machine).capacity (node_at s machine).lane.body) → (machine : ℕ)
-    → IsSound (node_at (one_more is_bridge capacity used s) machine).capacity (node_at (one_more is_bridge capacity used s) machine).lane.body
-more_sound is_bridge capacity used s sound zero = sound zero
-more_sound is_bridge capacity used s sound (suc place) =
-    new_fits s.machines (new_node (profile_of is_bridge (length s.machines + 1) capacity used)) place (λ (node : NodeState). IsSound node.capacity node.lane.body) (new_is_sound is_bridge capacity used (length s.machines + 1)) (λ other. sound (suc other))
+more_sound : (lane : ℕ) (is_bridge : Bool) (capacity used : ℕ) (s : LineState) → ((machine : ℕ) → IsSound (node_at s machine).capacity (node_at s machine).lane.body) → (machine : ℕ)
+    → IsSound (node_at (one_more lane is_bridge capacity used s) machine).capacity (node_at (one_more lane is_bridge capacity used s) machine).lane.body
+more_sound lane is_bridge capacity used s sound zero = sound zero
+more_sound lane is_bridge capacity used s sound (suc place) =
+    new_fits s.machines (new_node (profile_of lane is_bridge (length s.machines + 1) capacity used)) place (λ (node : NodeState). IsSound node.capacity node.lane.body) (new_is_sound lane is_bridge capacity used (length s.machines + 1)) (λ other. sound (suc other))
 
 -- ONE MACHINE MORE, which takes part in the relation as what was beyond the end did
-pub more_stands : (t : Trace) (is_bridge : Bool) (capacity used : ℕ) (s : LineState) → Stands t s → may_add s ≡ may_do → Stands t (one_more is_bridge capacity used s)
-more_stands t is_bridge capacity used s stands may =
-    let next : LineState = one_more is_bridge capacity used s in
-    let together : IsLineTogether next = more_together is_bridge capacity used s may stands.together in
+pub more_stands : (t : Trace) (lane : ℕ) (is_bridge : Bool) (capacity used : ℕ) (s : LineState) → lane ≤ 4 → Stands t s → may_add s ≡ may_do → Stands t (one_more lane is_bridge capacity used s)
+more_stands t lane is_bridge capacity used s early stands may =
+    let next : LineState = one_more lane is_bridge capacity used s in
+    let together : IsLineTogether next = more_together lane is_bridge capacity used s may stands.together in
     record {
       keeps = keeps_seen (stand_of next) (between_of t next)
-          (same_keeps (λ k. stand_aside (stand_of s k)) (λ k. stand_aside (stand_of next k)) (between_of t s) (between_of t next) (stand_more is_bridge capacity used s) (between_more is_bridge capacity used t s)
+          (same_keeps (λ k. stand_aside (stand_of s k)) (λ k. stand_aside (stand_of next k)) (between_of t s) (between_of t next) (stand_more lane is_bridge capacity used s) (between_more lane is_bridge capacity used t s)
           (keeps_aside (stand_of s) (between_of t s) stands.keeps));
-      carried = λ link there. carried_by is_bridge capacity used t s link (has_link link s) stands refl;
-      rest = λ link none. same_rest is_bridge capacity used t s link (stands.rest link (no_link_before is_bridge capacity used s link none));
-      fit = more_fit is_bridge capacity used s together stands.fit;
-      sound = more_sound is_bridge capacity used s stands.sound;
-      links = more_whole is_bridge capacity used s stands.links;
+      carried = λ link there. carried_by lane is_bridge capacity used t s link (has_link link s) stands refl;
+      rest = λ link none. same_rest lane is_bridge capacity used t s link (stands.rest link (no_link_before lane is_bridge capacity used s link none));
+      fit = more_fit lane is_bridge capacity used s early together stands.fit;
+      sound = more_sound lane is_bridge capacity used s stands.sound;
+      links = more_whole lane is_bridge capacity used s stands.links;
       together = together;
-      ids = more_holds is_bridge capacity used s may stands.ids;
-      olds = λ link id gone. old-last 1 s.machines (new_node (profile_of is_bridge (length s.machines + 1) capacity used)) id (stands.olds link id gone);
+      ids = more_holds lane is_bridge capacity used s may stands.ids;
+      olds = λ link id gone. old-last 1 s.machines (new_node (profile_of lane is_bridge (length s.machines + 1) capacity used)) id (stands.olds link id gone);
     }
 
 -- the relation doesn't count the lines

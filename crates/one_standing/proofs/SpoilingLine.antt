@@ -123,9 +123,9 @@ linked link parts s = with_world (with_link link parts s.world) s
 gap_stays : (link : ℕ) (parts : LinkParts) (s : LineState) (k : ℕ) → gap_at (linked link parts s).world.floor k ≡ gap_at s.world.floor k
 gap_stays link parts s k = ap (λ f. gap_at f k) (floor_stays link parts s.world)
 
-bears_by : (link : ℕ) (parts : LinkParts) (t t2 : Trace) (s : LineState) → Stands t s → ((k : ℕ) → k ≢ link → SameTrace t t2 k) → ((k : ℕ) → t2.ghost k ≡ t.ghost k) → ((k : ℕ) → t2.gone k ≡ t.gone k)
+bears_by : {Left : ℕ → Type 0} (link : ℕ) (parts : LinkParts) (t t2 : Trace) (s : LineState) → Stands t s → ((k : ℕ) → k ≢ link → SameTrace t t2 k) → ((k : ℕ) → t2.ghost k ≡ t.ghost k) → ((k : ℕ) → t2.gone k ≡ t.gone k)
     → ((k : ℕ) → t.up k ≡ [] → t2.up k ≡ []) → ((k : ℕ) → t.down k ≡ [] → t2.down k ≡ [])
-    → Neighbours (stand_of s link) (between_of t2 (linked link parts s) link) (stand_of s (link + 1)) → (has_link link s ≡ true → Carried t2 (linked link parts s) link) → Bears t2 (linked link parts s)
+    → Neighbours (stand_of s link) (between_of t2 (linked link parts s) link) (stand_of s (link + 1)) → (has_link link s ≡ true → Carried t2 (linked link parts s) link) → Bears Left t t2 (linked link parts s)
 bears_by link parts t t2 s st same ghosts gones ups downs here carried =
     let s2 : LineState = linked link parts s in
     record {
@@ -135,6 +135,7 @@ bears_by link parts t t2 s st same ghosts gones ups downs here carried =
       fit = λ machine. fit_same s s2 machine refl (st.fit machine);
       sound = λ machine. subst (λ (n : NodeState). IsSound n.capacity n.lane.body) (sym (same_node s s2 refl machine)) (st.sound machine);
       olds = λ k id gone. st.olds k id (subst (λ (g : ℕ → Bool). g id ≡ true) (gones k) gone);
+      was = λ k id gone. inl (subst (λ (g : ℕ → Bool). g id ≡ true) (gones k) gone);
     }
   where
     by : (k : ℕ) → has_link k s ≡ true → (k ≡ link) ⊎ (k ≢ link) → Carried t2 (linked link parts s) k
@@ -188,7 +189,7 @@ cut_between b = record b { stands = false; up = []; down = [] }
 neighbours_cut : (above : Stand) (b : Between) (below : Stand) → Neighbours above b below → Neighbours above (cut_between b) below
 neighbours_cut above b below n = record { pair = is_cut b.ghost (link_between above b below) n.pair; contents = cut_contents (link_between above b below) above.body.kept n.contents; holds = n.holds }
 
-pub cut_bears : (gap : ℕ) (t : Trace) (s : LineState) → Stands t s → Bears (cut_trace gap t) (cut_in gap s)
+pub cut_bears : {Left : ℕ → Type 0} (gap : ℕ) (t : Trace) (s : LineState) → Stands t s → Bears Left t (cut_trace gap t) (cut_in gap s)
 cut_bears gap t s st =
     let parts : LinkParts = cut (link_at gap s.world) in
     let off : IsOff (link_at gap (cut_in gap s).world) = cut_off gap s in
@@ -281,7 +282,7 @@ at_side : (machine : ℕ) (side : Side) (s : LineState) → has_neighbour machin
 at_side machine Exit s there = refl
 at_side machine Entry s there = let behind : 1 < machine = ltb-true 1 machine there in omega arith
 
-nulled_bears : SaysAlone → (machine : ℕ) (side : Side) (t : Trace) (s : LineState) → Stands t s → AreWaiting s → CanSpoil machine side s → Bears t (linked (link_of machine side) (nulled (end_of side) (link_at (link_of machine side) s.world)) s)
+nulled_bears : {Left : ℕ → Type 0} → SaysAlone → (machine : ℕ) (side : Side) (t : Trace) (s : LineState) → Stands t s → AreWaiting s → CanSpoil machine side s → Bears Left t t (linked (link_of machine side) (nulled (end_of side) (link_at (link_of machine side) s.world)) s)
 nulled_bears alone machine side t s st waits can =
     let link : ℕ = link_of machine side in
     let parts : LinkParts = nulled (end_of side) (link_at link s.world) in
@@ -294,9 +295,9 @@ nulled_bears alone machine side t s st waits can =
     (λ has. nulled_carries alone side link t s (st.carried link has) (st.links link) can.stands needs)
 
 -- its trace is the same, or that of the link cut, where too much was on its way
-pub spoil_goes_on : SaysAlone → (machine : ℕ) (side : Side) (t : Trace) (s : LineState) → Stands t s → AreWaiting s → may_spoil machine side s ≡ may_do
-    → (t2 : Trace) × ((t2 ≡ t) ⊎ (t2 ≡ cut_trace (link_of machine side) t)) × Bears t2 (spoiled machine side s)
-spoil_goes_on alone machine side t s st waits may = by (is_too_much (end_of side) (nulled (end_of side) parts)) refl
+pub spoil_goes_on : {Left : ℕ → Type 0} → SaysAlone → (machine : ℕ) (side : Side) (t : Trace) (s : LineState) → Stands t s → AreWaiting s → may_spoil machine side s ≡ may_do
+    → (t2 : Trace) × ((t2 ≡ t) ⊎ (t2 ≡ cut_trace (link_of machine side) t)) × Bears Left t t2 (spoiled machine side s)
+spoil_goes_on {Left} alone machine side t s st waits may = by (is_too_much (end_of side) (nulled (end_of side) parts)) refl
   where
     link : ℕ
     link = link_of machine side
@@ -304,13 +305,13 @@ spoil_goes_on alone machine side t s st waits may = by (is_too_much (end_of side
     parts : LinkParts
     parts = link_at link s.world
 
-    by : (test : Bool) → is_too_much (end_of side) (nulled (end_of side) parts) ≡ test → (t2 : Trace) × ((t2 ≡ t) ⊎ (t2 ≡ cut_trace (link_of machine side) t)) × Bears t2 (spoiled machine side s)
+    by : (test : Bool) → is_too_much (end_of side) (nulled (end_of side) parts) ≡ test → (t2 : Trace) × ((t2 ≡ t) ⊎ (t2 ≡ cut_trace (link_of machine side) t)) × Bears Left t t2 (spoiled machine side s)
     by true is =
         let same : spoiled machine side s ≡ cut_in link s = ap (λ (l : LinkParts). linked link l s) (spoil_parts (end_of side) parts true is) in
-        (cut_trace link t, inr refl, subst (λ (s2 : LineState). Bears (cut_trace link t) s2) (sym same) (cut_bears link t s st))
+        (cut_trace link t, inr refl, subst (λ (s2 : LineState). Bears Left t (cut_trace link t) s2) (sym same) (cut_bears link t s st))
     by false is =
         let same : spoiled machine side s ≡ linked link (nulled (end_of side) parts) s = ap (λ (l : LinkParts). linked link l s) (spoil_parts (end_of side) parts false is) in
-        (t, inl refl, subst (λ (s2 : LineState). Bears t s2) (sym same) (nulled_bears alone machine side t s st waits (can_spoil machine side s may)))
+        (t, inl refl, subst (λ (s2 : LineState). Bears Left t t s2) (sym same) (nulled_bears alone machine side t s st waits (can_spoil machine side s may)))
 
-pub spoil_bears : SaysAlone → (machine : ℕ) (side : Side) (t : Trace) (s : LineState) → Stands t s → AreWaiting s → may_spoil machine side s ≡ may_do → (t2 : Trace) × Bears t2 (spoiled machine side s)
+pub spoil_bears : {Left : ℕ → Type 0} → SaysAlone → (machine : ℕ) (side : Side) (t : Trace) (s : LineState) → Stands t s → AreWaiting s → may_spoil machine side s ≡ may_do → (t2 : Trace) × Bears Left t t2 (spoiled machine side s)
 spoil_bears alone machine side t s st waits may = let then = spoil_goes_on alone machine side t s st waits may in (then.0, then.2)

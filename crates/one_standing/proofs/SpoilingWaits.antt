@@ -10,7 +10,6 @@ use Rattle.hermes_stream.proofs.Streams.{left_of-need_more, without_blanks-again
 use Rattle.hermes_stream.specs.Frames.{Answer, Frame, NeedMore, TooLong, answer_at, answer_of, end_within, frames_of, frames_within, joined, left_of, without_blanks}
 use Rattle.line_link.specs.Link.{connected_of}
 use Rattle.line_report.specs.declared.happening.Happening.{Happening}
-use Rattle.line_script.specs.declared.line.ScriptLine.{ScriptLine}
 use Rattle.node_core.specs.Node.{NodeState, new_node}
 use Rattle.node_core.specs.Sides.{is_open}
 use Rattle.node_core.specs.Step.{Brings}
@@ -32,7 +31,7 @@ use Rattle.line_step.proofs.Numbers.{machine_set_own, same_or_not}
 use Rattle.line_step.proofs.Opening.{steps_open}
 use Rattle.one_standing.specs.Waits.{AreWaiting, Waits}
 use Rattle.one_standing.proofs.RestLine.{node_there}
-use Rattle.line_step.proofs.Requests.{Request, request_of}
+use Rattle.line_step.specs.Requests.{Request}
 use Rattle.line_step.proofs.Effects.{becomes_by}
 use Rattle.line_step.proofs.Turns.{LineTurns, line_turns}
 use Rattle.line_step.proofs.Turns as turns
@@ -122,35 +121,35 @@ connects number machine before after told twice waits =
 
 -- ---- one machine more
 
-new_waits : (profile_number : ℕ) (is_bridge : Bool) (capacity used : ℕ) → Waits (new_node (profile_of is_bridge profile_number capacity used)).lane
-new_waits number is_bridge capacity used Entry there = needs_none
-new_waits number is_bridge capacity used Exit there = needs_none
+new_waits : (profile_number : ℕ) (lane : ℕ) (is_bridge : Bool) (capacity used : ℕ) → Waits (new_node (profile_of lane is_bridge profile_number capacity used)).lane
+new_waits number lane is_bridge capacity used Entry there = needs_none
+new_waits number lane is_bridge capacity used Exit there = needs_none
 
-more_waits : (is_bridge : Bool) (capacity used : ℕ) (s : LineState) → AreWaiting s → AreWaiting (one_more is_bridge capacity used s)
-more_waits is_bridge capacity used s waits k = by (same_or_not k (length s.machines + 1))
+more_waits : (lane : ℕ) (is_bridge : Bool) (capacity used : ℕ) (s : LineState) → AreWaiting s → AreWaiting (one_more lane is_bridge capacity used s)
+more_waits lane is_bridge capacity used s waits k = by (same_or_not k (length s.machines + 1))
   where
     next : length s.machines + 1 ≡ suc (length s.machines)
     next = omega arith
 
-    by : (k ≡ length s.machines + 1) ⊎ (k ≢ length s.machines + 1) → Waits (node_at (one_more is_bridge capacity used s) k).lane
+    by : (k ≡ length s.machines + 1) ⊎ (k ≢ length s.machines + 1) → Waits (node_at (one_more lane is_bridge capacity used s) k).lane
     by (inl is) =
-        let new : NodeState = new_node (profile_of is_bridge (length s.machines + 1) capacity used) in
-        subst (λ (n : ℕ). Waits (node_at (one_more is_bridge capacity used s) n).lane) (sym (is ∙ next))
-        (subst (λ (n : NodeState). Waits n.lane) (sym (last_node s.machines new)) (new_waits (length s.machines + 1) is_bridge capacity used))
-    by (inr apart) = subst (λ (n : NodeState). Waits n.lane) (sym (ap (λ (x : numbered.Stand). x.node) ((more_changes is_bridge capacity used s).machines k apart))) (waits k)
+        let new : NodeState = new_node (profile_of lane is_bridge (length s.machines + 1) capacity used) in
+        subst (λ (n : ℕ). Waits (node_at (one_more lane is_bridge capacity used s) n).lane) (sym (is ∙ next))
+        (subst (λ (n : NodeState). Waits n.lane) (sym (last_node s.machines new)) (new_waits (length s.machines + 1) lane is_bridge capacity used))
+    by (inr apart) = subst (λ (n : NodeState). Waits n.lane) (sym (ap (λ (x : numbered.Stand). x.node) ((more_changes lane is_bridge capacity used s).machines k apart))) (waits k)
 
 -- ---- a line of the script
 
 pub none_waiting : AreWaiting no_line
-none_waiting zero side there = new_waits 0 false 1 0 side there
-none_waiting (suc place) side there = new_waits 0 false 1 0 side there
+none_waiting zero side there = new_waits 0 1 false 1 0 side there
+none_waiting (suc place) side there = new_waits 0 1 false 1 0 side there
 
 turns_wait : (number : ℕ) (request : Request) (before next : LineState) (told : List Happening) → AreWaiting before → LineTurns number before next told request → AreWaiting next
 turns_wait number request before next told waits (turns.stays _ same none) = still_waiting before next same waits
-turns_wait number request before next told waits (turns.adds is_bridge capacity used may b) = becomes_by (λ s ts. AreWaiting s) b (more_waits is_bridge capacity used before waits)
+turns_wait number request before next told waits (turns.adds lane is_bridge capacity used may b) = becomes_by (λ s ts. AreWaiting s) b (more_waits lane is_bridge capacity used before waits)
 turns_wait number request before next told waits (turns.steps machine input given may did) = steps number machine input before next told did waits
 turns_wait number request before next told waits (turns.connects machine may did) = connects number machine before next told did waits
 turns_wait number request before next told waits (turns.flows machine side count may did) = flows number machine side count before next told did waits
 
-pub does_waiting : (number : ℕ) (line : ScriptLine) (before next : LineState) (told : List Happening) → AreWaiting before → LineDoes number line before next told → AreWaiting next
-does_waiting number line before next told waits does = turns_wait number (request_of line) before next told waits (line_turns number line before next told does)
+pub does_waiting : (number : ℕ) (request : Request) (before next : LineState) (told : List Happening) → AreWaiting before → LineDoes number request before next told → AreWaiting next
+does_waiting number request before next told waits does = turns_wait number request before next told waits (line_turns number request before next told does)

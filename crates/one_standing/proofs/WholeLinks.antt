@@ -15,7 +15,6 @@ use Rattle.line_link.specs.Texts.{with_byte_at}
 use Rattle.line_link.proofs.Reaching.{begun_by}
 use Rattle.line_report.specs.declared.happening.Happening.{Happening}
 use Rattle.line_report.specs.declared.happening.Reason.TheVariants as reasons
-use Rattle.line_script.specs.declared.line.ScriptLine.{ScriptLine}
 use Rattle.node_core.specs.Node.{NodeState}
 use Rattle.node_core.specs.declared.act.Act.{Act}
 use Rattle.node_core.specs.declared.act.Act.TheVariants as acts
@@ -32,7 +31,7 @@ use Rattle.line_step.specs.World.{WorldParts, end_of, link_at, link_of, with_lin
 use Rattle.line_step.proofs.Keeps.{more_at}
 use Rattle.line_step.proofs.Numbers.{link_beyond}
 use Rattle.one_standing.specs.Links.{AreWholeLinks, IsWholeLink}
-use Rattle.line_step.proofs.Requests.{Request, request_of}
+use Rattle.line_step.specs.Requests.{Request}
 use Rattle.line_step.proofs.Effects.{Effect, becomes_by, line_effect}
 use Rattle.line_step.proofs.Effects as effects
 use Rattle.line_step.proofs.LinkRule.{ActKeeps, SentKeeps, act_keeps, link_keeps}
@@ -186,8 +185,8 @@ connects number machine before after told twice all =
     (steps number machine inputs.Connect (connecting machine before) twice.between twice.earlier twice.first
     (whole_links link (after_connect (link_at link before.world)) before.world all (whole_connect (link_at link before.world) (all link))))
 
-pub more_whole : (is_bridge : Bool) (capacity used : ℕ) (s : LineState) → AreWholeLinks s → AreWholeLinks (one_more is_bridge capacity used s)
-more_whole is_bridge capacity used s all link = subst IsWholeLink (sym (more_at is_bridge capacity used s link)) (all link)
+pub more_whole : (lane : ℕ) (is_bridge : Bool) (capacity used : ℕ) (s : LineState) → AreWholeLinks s → AreWholeLinks (one_more lane is_bridge capacity used s)
+more_whole lane is_bridge capacity used s all link = subst IsWholeLink (sym (more_at lane is_bridge capacity used s link)) (all link)
 
 -- a link that is spoiled stands, and lies between two machines
 pub record CanSpoil (machine : ℕ) (side : Side) (s : LineState) : Type 0 where
@@ -216,7 +215,7 @@ none_whole_links (suc place) = subst IsWholeLink (sym (link_beyond (suc place) n
 
 effect_whole : (number : ℕ) (request : Request) (before next : LineState) (told : List Happening) → AreWholeLinks before → Effect number before next told request → AreWholeLinks next
 effect_whole number request before next told all (effects.rests _ what remarks b) = becomes_by (λ s ts. AreWholeLinks s) b all
-effect_whole number request before next told all (effects.adds is_bridge capacity used may b) = becomes_by (λ s ts. AreWholeLinks s) b (more_whole is_bridge capacity used before all)
+effect_whole number request before next told all (effects.adds lane is_bridge capacity used may b) = becomes_by (λ s ts. AreWholeLinks s) b (more_whole lane is_bridge capacity used before all)
 effect_whole number request before next told all (effects.steps machine input given may did) = steps number machine input before next told did all
 effect_whole number request before next told all (effects.connects machine may did) = connects number machine before next told did all
 effect_whole number request before next told all (effects.flows machine side count may did) = flows number machine side count before next told did all
@@ -230,5 +229,5 @@ effect_whole number request before next told all (effects.moves gap step floor i
 effect_whole number request before next told all (effects.lies machine sensed may b) = becomes_by (λ s ts. AreWholeLinks s) b all
 effect_whole number request before next told all (effects.unsees machine side may b) = becomes_by (λ s ts. AreWholeLinks s) b all
 
-pub does_whole_links : (number : ℕ) (line : ScriptLine) (before next : LineState) (told : List Happening) → AreWholeLinks before → LineDoes number line before next told → AreWholeLinks next
-does_whole_links number line before next told all does = effect_whole number (request_of line) before next told all (line_effect number line before next told does)
+pub does_whole_links : (number : ℕ) (request : Request) (before next : LineState) (told : List Happening) → AreWholeLinks before → LineDoes number request before next told → AreWholeLinks next
+does_whole_links number request before next told all does = effect_whole number request before next told all (line_effect number request before next told does)

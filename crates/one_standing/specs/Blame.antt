@@ -6,7 +6,7 @@ use Rattle.line_base.specs.declared.states.Side.{Side}
 use Rattle.line_report.specs.declared.happening.Happening.{Happening}
 use Rattle.line_report.specs.declared.happening.Happening.TheVariants as happenings
 use Rattle.node_core.specs.declared.act.Act.TheVariants as acts
-use Rattle.line_step.specs.Lies.{has_lie}
+use Rattle.line_step.specs.Homes.{IsHonest}
 use Rattle.line_step.specs.Runs.{IsRun, Point, IsShort}
 use Rattle.line_step.specs.State.{no_line}
 use Rattle.line_step.specs.Tracks.{TrackLine}
@@ -34,5 +34,5 @@ AreBlamesTrue past (point ∷ points) =
 abbrev pub NoFalseBlame : Type 0
 NoFalseBlame =
     (asked : List TrackLine) (points : List Point) (n : ℕ) → AllByRecursion IsFitTrack asked
-    → IsShort no_line points → IsRun no_line asked points → has_lie (take n points) ≡ false
+    → IsShort no_line points → IsRun no_line asked points → IsHonest asked points n
     → AreBlamesTrue [] (take n points)

@@ -25,7 +25,7 @@ use Rattle.custody.specs.Facts.{Has}
 use Rattle.custody.specs.Words.{events_at}
 use Rattle.machine_custody.specs.Good.{Lies}
 use Rattle.line_step.specs.Reasons.{is_empty}
-use Rattle.line_step.specs.Lies.{has_lie}
+use Rattle.line_step.specs.Homes.{IsHonest}
 use Rattle.line_step.specs.Numbered.{node_at}
 use Rattle.line_step.specs.Runs.{IsRun, Point, IsShort}
 use Rattle.line_step.specs.State.{LineState, no_line, owned_by}
@@ -143,5 +143,5 @@ pub record HasCustodyFacts (s : LineState) : Type 0 where
 abbrev pub CustodyFacts : Type 0
 CustodyFacts =
     (asked : List TrackLine) (points : List Point) (n : ℕ) → AllByRecursion IsFitTrack asked
-    → IsShort no_line points → IsRun no_line asked points → has_lie (take n points) ≡ false
+    → IsShort no_line points → IsRun no_line asked points → IsHonest asked points n
     → AllByRecursion (λ (point : Point). HasCustodyFacts point.after) (take n points)

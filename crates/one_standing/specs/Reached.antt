@@ -4,7 +4,6 @@ use Rattle.std.specs.List.{AllByRecursion}
 use Rattle.board_record.specs.Maker.{made_id}
 use Rattle.line_world.specs.Ids.{IdsDiffer}
 use Rattle.line_world.specs.declared.board.Board.{Board}
-use Rattle.line_script.specs.declared.line.ScriptLine.{ScriptLine}
 use Rattle.line_report.specs.declared.happening.Happening.{Happening}
 use Rattle.node_core.specs.Node.{NodeState}
 use Rattle.standings.specs.Ledger.{AreLegal, Ledger, empty_ledger, ledger_after_all}
@@ -12,22 +11,26 @@ use Rattle.standings.specs.Marks.{has_id}
 use Rattle.standings.specs.declared.deed.Deed.{Deed}
 use Rattle.line_step.specs.FloorIds.{boards_of}
 use Rattle.line_step.specs.Lines.{LineSteps}
-use Rattle.line_step.specs.Runs.{IsRun, IsShort, Point, state_behind}
+use Rattle.line_step.specs.Requests.{Request}
+use Rattle.line_step.specs.Homes.{AreNewcomers, IsNewcomer}
+use Rattle.line_step.specs.Runs.{IsRun, IsShort, Point, all_told, state_behind}
 use Rattle.line_step.specs.State.{LineState, machine_in, marks_in, no_line}
-use Rattle.line_step.specs.Tracks.{TrackLine}
+use Rattle.line_step.specs.Tracks.{ComesFromElsewhere, TrackLine, own_line}
 use Rattle.one_standing.specs.Facts.{HasCustodyFacts}
 use Rattle.one_standing.specs.Replay.{IsLedgerOf, IsStandingTold, deeds_of}
-use Rattle.one_standing.specs.Standing.{HasOneStanding, IsFitLine, IsFitTrack}
+use Rattle.one_standing.specs.Standing.{HasOneStanding, IsFitRequest, IsFitTrack}
 
--- the state behind a run of a track: its lines, whose barcodes are texts, and a point for each
+-- the state behind a run of a track: its lines, and a point for each. While no line told what was
+-- not so, the barcodes of the lines are texts, and boards came to where they weren't at home
 pub record IsReached (s : LineState) : Type 0 where
   pub asked : List TrackLine
   pub points : List Point
-  pub fit : AllByRecursion IsFitTrack asked
+  pub fit : s.unvouched ≡ None → AllByRecursion IsFitTrack asked
   pub short : IsShort no_line points
   pub few : s.lines ≤ 1000000
   pub run : IsRun no_line asked points
   pub behind : state_behind no_line points ≡ s
+  pub newcomers : s.unvouched ≡ None → AreNewcomers [] asked points
 
 -- ---- UNIQUE IDS, of a state
 
@@ -90,10 +93,12 @@ CustodyAlong = (s : LineState) → IsReached s → s.unvouched ≡ None → HasC
 abbrev pub IdsAlong : Type 0
 IdsAlong = (s : LineState) → IsReached s → HasUniqueIds s
 
--- of a line and the next one
+-- of a line and the next one, to which no board comes where it is at home, or lies
 abbrev pub LedgerAlong : Type 0
 LedgerAlong =
-    (line : ScriptLine) (before after : LineState) (told : List Happening) → IsReached before
-    → IsFitLine line → before.lines + 1 ≤ 1000000
-    → LineSteps (before.lines + 1) line before after told → after.unvouched ≡ None
+    (request : Request) (before after : LineState) (told : List Happening)
+    → (reached : IsReached before) → IsFitRequest request
+    → IsNewcomer (all_told reached.points) (own_line request) → ComesFromElsewhere request before
+    → before.lines + 1 ≤ 1000000
+    → LineSteps (before.lines + 1) request before after told → after.unvouched ≡ None
     → FollowsLine before after told

@@ -15,7 +15,7 @@ use Rattle.standings.specs.Standing.{HasStanding, Place}
 use Rattle.standings.specs.declared.deed.Deed.{Deed}
 use Rattle.standings.specs.declared.deed.Deed.TheVariants as deeds
 use Rattle.standings.specs.declared.entry.Entry.{Entry}
-use Rattle.line_step.specs.Lies.{has_lie}
+use Rattle.line_step.specs.Homes.{IsHonest}
 use Rattle.line_step.specs.Runs.{IsRun, Point, IsShort}
 use Rattle.line_step.specs.State.{LineState, marks_in, no_line}
 use Rattle.line_step.specs.Tracks.{TrackLine}
@@ -38,6 +38,8 @@ deeds_at machine (acts.Deed deed) = deeds_at_side machine deed
 deeds_at machine (acts.Inserts id) = deeds.Inserts machine id ∷ []
 deeds_at machine (acts.Removes id) = deeds.Removes machine id ∷ []
 deeds_at machine (acts.Replaces old new) = deeds.Replaces machine old new ∷ []
+deeds_at machine (acts.Gives id to) = deeds.Removes machine id ∷ []
+deeds_at machine (acts.Gets id) = deeds.Comes machine id ∷ []
 deeds_at machine _ = []
 
 abbrev pub deeds_in : Happening → List Deed
@@ -75,5 +77,5 @@ Follows ledger (point ∷ points) =
 abbrev pub LedgerFollows : Type 0
 LedgerFollows =
     (asked : List TrackLine) (points : List Point) (n : ℕ) → AllByRecursion IsFitTrack asked
-    → IsShort no_line points → IsRun no_line asked points → has_lie (take n points) ≡ false
+    → IsShort no_line points → IsRun no_line asked points → IsHonest asked points n
     → Follows empty_ledger (take n points)

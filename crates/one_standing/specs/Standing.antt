@@ -1,23 +1,22 @@
 -- ONE STANDING: each board's record stands with one machine, or in one handover between two
 -- neighbours.
-use Rattle.std.specs.Prelude.{Bool, List, Some, [], false, length, take, true, ℕ, ◌-◌, ◌∷◌, ◌≡◌, ◌≢◌, ◌≤◌, ◌⊎◌}
+use Rattle.std.specs.Prelude.{Bool, List, Some, [], false, take, true, ℕ, ◌-◌, ◌∷◌, ◌≡◌, ◌≢◌, ◌≤◌, ◌⊎◌}
 use Rattle.std.specs.List.{AllByRecursion}
-use Rattle.line_base.specs.Text.{IsText}
 use Rattle.line_world.specs.Boards.{boards_in}
 use Rattle.line_world.specs.FloorPlan.{gap_at, machine_at}
 use Rattle.line_world.specs.declared.board.Board.{Board}
 use Rattle.line_script.specs.declared.line.ScriptLine.{ScriptLine}
-use Rattle.line_script.specs.declared.line.ScriptLine.TheVariants as lines
 use Rattle.standings.specs.Marks.{has_id, is_held}
 use Rattle.standings.specs.Standing.{HasStanding, Place}
 use Rattle.standings.specs.declared.standing.Standing.TheVariants.{Between, With}
-use Rattle.line_step.specs.Lies.{has_lie}
+use Rattle.line_step.specs.Homes.{IsHonest}
 use Rattle.line_step.specs.Numbered.{node_at}
+use Rattle.line_step.specs.Requests.{adds, gives, Request, request_of}
 use Rattle.line_step.specs.Runs.{IsRun, Point, IsShort}
 use Rattle.line_step.specs.State.{LineState, marks_in, no_line, owned_by}
 use Rattle.line_step.specs.Tracks.{TrackLine, asked_on}
 use Rattle.machine_custody.specs.Good.{Lies}
-use Rattle.link_messages.specs.Fit.{IsTextIf}
+use Rattle.link_messages.specs.Fit.{IsFitInput}
 
 -- no id lies twice in a list
 pub data AreOnce : List Board → Type 0 where
@@ -66,22 +65,25 @@ pub record HasOneStanding (s : LineState) : Type 0 where
   pub alone : (gap id other : ℕ) → HasStanding (marks_in s id) (Between gap)
       → HasStanding (marks_in s other) (Between gap) → id ≡ other
 
--- the barcode of a line is a text, and a place on a panel has at most nine digits, as in every line
--- which is read
-abbrev pub IsFitLine : ScriptLine → Type 0
-IsFitLine (lines.Insert machine (Some barcode)) = IsText barcode
-IsFitLine (lines.Query machine barcode) = IsText barcode
-IsFitLine (lines.Sub machine id place barcode) = (place ≤ 999_999_999) × IsTextIf barcode
-IsFitLine _ = Unit {0}
+-- an input that is asked for is fit: its barcode is a text, and a place on a panel has at most nine
+-- digits
+abbrev pub IsFitRequest : Request → Type 0
+IsFitRequest (gives machine input) = IsFitInput input
+IsFitRequest (adds lane is_bridge capacity used) = lane ≤ 4
+IsFitRequest _ = Unit {0}
 
--- so it is of a line on a track
+-- so it is of a line of a script, as of every one which is read
+abbrev pub IsFitLine : ScriptLine → Type 0
+IsFitLine line = IsFitRequest (request_of line)
+
+-- and of a line on a track
 abbrev pub IsFitTrack : TrackLine → Type 0
-IsFitTrack line = IsFitLine (asked_on line)
+IsFitTrack line = IsFitRequest (asked_on line)
 
 -- THE LAW: it holds after each line of every script, up to the first one that told what was not
--- so. A script has at most 1,000,000 lines
+-- so, or on whose track a board came where it was at home already. A script has at most 1,000,000 lines
 abbrev pub OneStanding : Type 0
 OneStanding =
     (asked : List TrackLine) (points : List Point) (n : ℕ) → AllByRecursion IsFitTrack asked
-    → IsShort no_line points → IsRun no_line asked points → has_lie (take n points) ≡ false
+    → IsShort no_line points → IsRun no_line asked points → IsHonest asked points n
     → AllByRecursion (λ (point : Point). HasOneStanding point.after) (take n points)

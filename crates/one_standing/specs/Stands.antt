@@ -9,7 +9,7 @@ use Rattle.line_step.specs.Reasons.{has_link}
 use Rattle.line_step.specs.State.{LineState}
 use Rattle.line_step.specs.Together.{IsLineTogether}
 use Rattle.line_step.proofs.FloorLaws.{Holds}
-use Rattle.line_step.proofs.Makers.{IsOld}
+use Rattle.line_step.specs.Made.{IsOld}
 use Rattle.one_standing.specs.Carried.{Carried, IsFitMachine, Trace, between_of, stand_of}
 use Rattle.one_standing.specs.Kept.{Keeps}
 use Rattle.one_standing.specs.Links.{AreWholeLinks}

@@ -8,7 +8,7 @@ ghost use Rattle.one_standing.specs.Replay.{LedgerFollows};
 ghost use Rattle.one_standing.specs.Standing.{OneStanding};
 
 /// One standing: after each line of a script, up to the first one that told of a sensor event that
-/// was not, every id with a mark has a standing, with one machine or in the handover at one gap;
+/// was not, or let a board come to a track where it is at home already, every id with a mark has a standing, with one machine or in the handover at one gap;
 /// so has every board in a list and in a gap, with that machine or in a handover at one of its
 /// gaps, and in the handover at that gap; a machine keeps the records of boards that lie in its
 /// list, and none that its outlet holds; no list has an id twice; and at most one id is in the
