@@ -34,11 +34,19 @@ use Rattle.node_core.specs.Bridge.{tells_level}
 use Rattle.custody.specs.Contents.{Kept, kept_first, kept_later}
 use Rattle.line_step.specs.Lines.{met as met_on}
 use Rattle.line_step.specs.Numbered.{no_node, node_at}
+use Rattle.line_step.specs.Homes.{IsNewcomer}
+use Rattle.line_step.specs.Tracks.{own_line}
+use Rattle.line_step.specs.Requests.{Request}
+use Rattle.line_step.specs.Requests as requests
 use Rattle.line_step.specs.State.{LineState, machine_in}
 use Rattle.line_step.specs.Steps.{MachineSteps, moment_of, unread_by}
-use Rattle.line_step.proofs.Makers.{AreNumbered, IsOld}
+use Rattle.line_step.specs.Made.{IsOld}
+use Rattle.line_step.proofs.Makers.{AreNumbered}
 use Rattle.line_step.proofs.Numbers.{machine_set_own}
-use Rattle.one_standing.specs.Carried.{Trace}
+use Rattle.one_standing.specs.Carried.{Trace, stand_of}
+use Rattle.standings.specs.declared.mark.Mark.{Mark}
+use Rattle.one_standing.proofs.LineRun.{StoodBy}
+use Rattle.one_standing.proofs.Comings.{away_has_none}
 use Rattle.contents_kept.specs.Records.{In, in_first, in_later}
 use Rattle.one_standing.specs.Stands.{Stands}
 use Rattle.one_standing.specs.Told.{IsTold}
@@ -47,7 +55,7 @@ use Rattle.one_standing.proofs.LedgerLine.{made_here}
 use Rattle.one_standing.proofs.LedgerMarks.{differ_of, kept_alone, mark_old, in_own_gap}
 use Rattle.one_standing.proofs.LedgerSteps.{kept_different}
 use Rattle.one_standing.proofs.LedgerTurns.{different_first, different_rest}
-use Rattle.one_standing.proofs.MarksOf.{has_intake as has_intake_mark, has_outlet as has_outlet_mark, kept_id, has_kept as has_kept_mark}
+use Rattle.one_standing.proofs.MarksOf.{HasMark, has_intake as has_intake_mark, has_outlet as has_outlet_mark, kept_id, has_kept as has_kept_mark}
 use Rattle.one_standing.proofs.MarksPlace.{kept_unheld}
 use Rattle.one_standing.proofs.OneStand.{has_end, same_link, by_numbers}
 use Rattle.one_standing.proofs.RestLine.{node_there}
@@ -197,34 +205,52 @@ starting_of {s = s} st = record {
   olds = λ machine q has. olds_of machine q st (sits_of (node_at s machine).lane.body q has);
 }
 
+-- a board that comes from another lane has no record before
+abbrev pub BringsNew : Request → LineState → Type 0
+BringsNew (requests.gives m (inputs.Gets board)) s = (machine : ℕ) (q : Record) → HasIn q (node_at s machine).lane.body → q.id ≡ board.id → ⊥
+BringsNew request s = Unit {0}
+
+-- so it is of one that isn't at home on the track
+sits_marked : {X : Type 0} (s : LineState) (machine : ℕ) (q : Record) (x : ℕ) → Sits (node_at s machine).lane.body q → q.id ≡ x → ((mark : Mark) → HasMark (stand_of s) x mark → X) → X
+sits_marked s machine q x (sits_kept i) same each = each (marks.Kept machine) (has_kept_mark (in_kept i same))
+sits_marked s machine q x (sits_held out) same each = each (marks.Outlet machine) (has_outlet_mark out same)
+sits_marked s machine q x (sits_taking into) same each = each (marks.Intake machine) (has_intake_mark into same)
+
+pub brings_new : (past : List Happening) (request : Request) (s : LineState) → StoodBy past s → IsNewcomer past (own_line request) → BringsNew request s
+brings_new past (requests.gives m (inputs.Gets board)) s by new =
+    λ machine q has same. sits_marked s machine q board.id (sits_of (node_at s machine).lane.body q has) same (λ mark marked. away_has_none by.stood.stands (by.away board.id new) marked)
+brings_new past (requests.gives m _) s by new = tt
+brings_new past _ s by new = tt
+
 -- a board that is put in has no record before
 new_not : (number m : ℕ) (input : Input) (before after : LineState) (told : List Happening) → Starting before → (steps : MachineSteps number m input before after told) → maker_after input steps.node.maker ≡ after_next steps.node.maker
     → (q p : Record) → HasIn q (node_at before m).lane.body → q.id ≡ p.id → (id : ℕ) × (next_id steps.node.maker ≡ Ok id) × (p.id ≡ id) → ⊥
 new_not number m input before after told a steps makes q p has same hand =
     (made_here number m input before after told steps a.own makes hand.0 hand.1).apart q.id (a.olds m q has) (same ∙ hand.2)
 
-hand_whole : (number m : ℕ) (input : Input) (before after : LineState) (told : List Happening) (steps : MachineSteps number m input before after told) → Starting before → IsOneRecord steps.node.lane.body
+hand_whole : (number m : ℕ) (input : Input) (before after : LineState) (told : List Happening) (steps : MachineSteps number m input before after told) → Starting before → BringsNew (requests.gives m input) before → IsOneRecord steps.node.lane.body
     → (q p : Record) → HasIn q (node_at before m).lane.body → HasIn q steps.node.lane.body → q.id ≡ p.id
     → IsByHand steps.node.bridge (body_then number m input before after told steps) (event_of steps.node.maker input steps.steps.lane.words) p → IsChangeOf told m q p
-hand_whole number m (inputs.Insert barcode) before after told steps a one q p there has same hand =
+hand_whole number m (inputs.Gets board) before after told steps a new one q p there has same hand = absurd (new m q there (same ∙ hand))
+hand_whole number m (inputs.Insert barcode) before after told steps a new one q p there has same hand =
     let body : Body = body_then number m (inputs.Insert barcode) before after told steps in
     absurd (new_not number m (inputs.Insert barcode) before after told a steps refl q p there same
     (new_by steps.node.bridge steps.node.maker body (next_id steps.node.maker) (λ id. Insert id barcode) p refl (λ id is. is) hand))
-hand_whole number m (inputs.Replace old) before after told steps a one q p there has same hand =
+hand_whole number m (inputs.Replace old) before after told steps a new one q p there has same hand =
     let body : Body = body_then number m (inputs.Replace old) before after told steps in
     absurd (new_not number m (inputs.Replace old) before after told a steps refl q p there same
     (new_by steps.node.bridge steps.node.maker body (next_id steps.node.maker) (Replace old) p refl (λ id is. is) hand))
-hand_whole number m (inputs.Mark id quality) before after told steps a one q p there has same hand =
+hand_whole number m (inputs.Mark id quality) before after told steps a new one q p there has same hand =
     inl (mark_of quality (marks_told number m id quality before after told steps hand.0)
     (changed_of steps.node.lane.body (body_then number m (inputs.Mark id quality) before after told steps) q p one (λ r h. read_has (desk_of steps.node (moment_of number)) (unread_by m before.world) steps.node.lane.body r h) has same (λ _. refl) hand.1))
-hand_whole number m (inputs.Sub id place barcode) before after told steps a one q p there has same hand =
+hand_whole number m (inputs.Sub id place barcode) before after told steps a new one q p there has same hand =
     inr (sub_of place barcode (subs_told number m id place barcode before after told steps hand.0)
     (changed_of steps.node.lane.body (body_then number m (inputs.Sub id place barcode) before after told steps) q p one (λ r h. read_has (desk_of steps.node (moment_of number)) (unread_by m before.world) steps.node.lane.body r h) has same (λ _. refl) hand.1))
-hand_whole number m (inputs.Level line on) before after told steps a one q p there has same hand =
+hand_whole number m (inputs.Level line on) before after told steps a new one q p there has same hand =
     let body : Body = body_then number m (inputs.Level line on) before after told steps in
     inl (mark_of qualities.Failed (fails_told number m hand.0 line on before after told steps hand.1 hand.2)
     (changed_of steps.node.lane.body (tells_level line on body).body q p one (λ r h. read_has (desk_of steps.node (moment_of number)) (unread_by m before.world) steps.node.lane.body r (level_has line on body r h)) has same (λ _. refl) hand.3))
-hand_whole number m _ before after told steps a one q p there has same hand = absurd hand
+hand_whole number m _ before after told steps a new one q p there has same hand = absurd hand
 
 -- the step of a machine, whose hands do only this
 pub machine_by : (number m : ℕ) (input : Input) (before after : LineState) (told : List Happening) → IsOneRecord (node_at before m).lane.body → (steps : MachineSteps number m input before after told)
@@ -249,10 +275,10 @@ machine_by number m input before after told single steps hands =
     }
 
 -- the step of a machine
-pub machine_whole : (number m : ℕ) (input : Input) (before after : LineState) (told : List Happening) → Starting before → MachineSteps number m input before after told → Whole told m (node_at before m).lane.body (node_at after m).lane.body
-machine_whole number m input before after told a steps =
+pub machine_whole : (number m : ℕ) (input : Input) (before after : LineState) (told : List Happening) → Starting before → BringsNew (requests.gives m input) before → MachineSteps number m input before after told → Whole told m (node_at before m).lane.body (node_at after m).lane.body
+machine_whole number m input before after told a new steps =
     let one : IsOneRecord steps.node.lane.body = subst (λ (n : NodeState). IsOneRecord n.lane.body) (node_there m before steps.node steps.there) (a.one m) in
-    machine_by number m input before after told (a.one m) steps (λ q p there has same hand. hand_whole number m input before after told steps a one q p there has same hand)
+    machine_by number m input before after told (a.one m) steps (λ q p there has same hand. hand_whole number m input before after told steps a new one q p there has same hand)
 
 -- and where it is met by a connection
 pub met_whole : (number m : ℕ) (on : Connected) (before after : LineState) (told : List Happening) → IsOneRecord (node_at before m).lane.body → MachineSteps number m (met_on on) before after told → Whole told m (node_at before m).lane.body (node_at after m).lane.body

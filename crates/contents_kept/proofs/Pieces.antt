@@ -95,7 +95,7 @@ use Rattle.node_core.specs.Announces.{
   start_by,
   announces,
 }
-use Rattle.node_core.specs.Event.{Event, Insert, Replace, Mark, Sub, event_did, Level}
+use Rattle.node_core.specs.Event.{Event, Insert, Replace, Mark, Sub, Gets, event_did, Level}
 use Rattle.node_core.specs.Step.{machine_step}
 use Rattle.node_core.proofs.HalfRows.{IsNoStart}
 use Rattle.contents_kept.specs.Records.{In, in_first, in_later}
@@ -114,6 +114,8 @@ use Rattle.step_rules.specs.Causes.{
   Reading,
   ToIntake,
   ToOutlet,
+  hand_gets,
+  hand_gives,
   hand_inserts,
   hand_removes,
   hand_replaces,
@@ -262,11 +264,12 @@ pub record IsChangedIn (id : ℕ) (change : Record → Record) (kept : List Reco
   pub named : was.id ≡ id
   pub is : q ≡ change was
 
--- a record that a machine keeps now and did not have before is that of a board that was put in or replaced, or one that was
--- kept and is marked or has a circuit more
+-- a record that a machine keeps now and did not have before is that of a board that was put in, replaced another or came from
+-- another lane, or one that was kept and is marked or has a circuit more
 abbrev pub IsByHand : Option BridgeLevels → Body → Event → Record → Type 0
 IsByHand bridge body (Insert id barcode) q = q.id ≡ id
 IsByHand bridge body (Replace old new) q = q.id ≡ new
+IsByHand bridge body (Gets board) q = q.id ≡ board.id
 IsByHand bridge body (Mark id quality) q = (is_kept id body.kept ≡ true) × IsChangedIn id (λ r. record r { quality = quality }) body.kept q
 IsByHand bridge body (Sub id sub) q = (takes_sub id sub body.kept ≡ true) × IsChangedIn id (λ r. record r { subs = r.subs ++ sub ∷ [] }) body.kept q
 IsByHand bridge body (Level line on) q =
@@ -360,6 +363,7 @@ BringsNone (Hearing side word) = Unit {0}
 BringsNone (Announcing starting) = starting ≡ false
 BringsNone (Meeting (Insert id barcode)) = ⊥
 BringsNone (Meeting (Replace old new)) = ⊥
+BringsNone (Meeting (Gets board)) = ⊥
 BringsNone (Meeting (Mark id quality)) = ⊥
 BringsNone (Meeting (Sub id sub)) = ⊥
 BringsNone (Meeting (Level line on)) = ⊥
@@ -376,6 +380,9 @@ by_hand : {desk : Desk} {event : Event} {body : Body} {kept : List Record} {act 
 by_hand hand_inserts none = absurd none
 by_hand (hand_removes {id = id} {body = body} is) none =
     record { each = λ q h. none_or (kept_by_hand (λ i. inl (in_without q id body.kept i)) h) }
+by_hand (hand_gives {id = id} {body = body} is) none =
+    record { each = λ q h. none_or (kept_by_hand (λ i. inl (in_without q id body.kept i)) h) }
+by_hand hand_gets none = absurd none
 by_hand (hand_replaces is) none = absurd none
 by_hand (hand_changes (changes_quality is)) none = absurd none
 by_hand (hand_changes (changes_circuits is)) none = absurd none
@@ -409,16 +416,22 @@ brings (made_by_hand hand) none = by_hand hand none
 brings (made_will {side = Entry} sets) none = record { each = λ q h. h }
 brings (made_will {side = Exit} sets) none = record { each = λ q h. h }
 
-event_brings : (desk : Desk) (event : Event) (body : Body)
-    → Meets desk.bridge event body (event_did desk event body)
-event_brings desk (Insert id barcode) body = record {
+-- a record comes to the back
+comes_behind : {bridge : Option BridgeLevels} (event : Event) (board : Record) (act : Act) (body : Body) → ((q : Record) → q ≡ board → IsByHand bridge body event q)
+    → Meets bridge event body (done (with_kept (body.kept ++ board ∷ []) body) (act ∷ []))
+comes_behind event board act body hand = record {
   each = λ q h.
-      kept_by_hand (λ i. elim (in_last q (plain_record id desk.name barcode) body.kept i) [
+      kept_by_hand (λ i. elim (in_last q board body.kept i) [
         | inl before ↦ inl before
-        | inr is ↦ inr (ap (λ (r : Record). r.id) is)
+        | inr is ↦ inr (hand q is)
       ]) h;
   out = λ q is. held_has q body is;
 }
+
+event_brings : (desk : Desk) (event : Event) (body : Body)
+    → Meets desk.bridge event body (event_did desk event body)
+event_brings desk (Insert id barcode) body = comes_behind (Insert id barcode) (plain_record id desk.name barcode) (acts.Inserts id) body (λ q is. ap (λ (r : Record). r.id) is)
+event_brings desk (Gets board) body = comes_behind (Gets board) board (acts.Gets board.id) body (λ q is. ap (λ (r : Record). r.id) is)
 event_brings desk (Replace old new) body =
     changed (Replace old new) old (λ _. plain_record new desk.name None) (acts.Replaces old new) body (is_kept old body.kept)
     (λ q kept m. ap (λ (r : Record). r.id) m.is)

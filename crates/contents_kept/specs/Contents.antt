@@ -1,7 +1,7 @@
 -- CONTENTS ARE KEPT, WITH ALL PARTS: over a line, what a machine has of a board changes in its
 -- quality alone, by a mark alone, or has one circuit of a panel more, by that alone, whatever else
 -- the line does to the machine.
-use Rattle.std.specs.Prelude.{List, [], Option, Some, false, length, slice_get, take, ℕ, ◌++◌, ◌∷◌, ◌≡◌, ◌≤◌, ◌⊎◌}
+use Rattle.std.specs.Prelude.{List, [], Option, Some, length, slice_get, take, ℕ, ◌++◌, ◌∷◌, ◌≡◌, ◌≤◌, ◌⊎◌}
 use Rattle.std.specs.List.{AllByRecursion}
 use Rattle.line_base.specs.declared.states.Quality.{Quality}
 use Rattle.line_base.specs.declared.states.Quality.TheVariants.{Failed}
@@ -10,13 +10,13 @@ use Rattle.board_record.specs.SubBoards.{unknown_sub}
 use Rattle.handover_out.specs.State.{board_of_phase as held_out}
 use Rattle.handover_out.specs.declared.phase.Phase.TheVariants.{Idle}
 use Rattle.handover_in.specs.State.{board_of_phase as held_in}
-use Rattle.line_script.specs.declared.line.ScriptLine.{ScriptLine}
-use Rattle.line_script.specs.declared.line.ScriptLine.TheVariants as lines
 use Rattle.line_report.specs.declared.happening.Happening.{Happening}
 use Rattle.line_report.specs.declared.happening.Happening.TheVariants as happenings
 use Rattle.node_core.specs.declared.act.Act.TheVariants as acts
-use Rattle.line_step.specs.Lies.{has_lie}
+use Rattle.node_core.specs.declared.input.Input.TheVariants as inputs
+use Rattle.line_step.specs.Homes.{IsHonest}
 use Rattle.line_step.specs.Numbered.{node_at}
+use Rattle.line_step.specs.Requests.{Request, gives}
 use Rattle.line_step.specs.Tracks.{TrackLine, asked_on}
 use Rattle.line_step.specs.Runs.{IsRun, Point, IsShort}
 use Rattle.line_step.specs.State.{LineState, no_line}
@@ -78,8 +78,8 @@ pub record IsFailedFront (before after : LineState) (machine : ℕ) (was now : R
   pub untouched : ¬ (IsOfferedAtRest before machine was.id)
 
 -- a line that sets a level of a bridge's segment changes no record but the front one, to failed
-abbrev pub ChangesFrontAlone : ScriptLine → LineState → LineState → Type 0
-ChangesFrontAlone (lines.Signal machine line on) before after =
+abbrev pub ChangesFrontAlone : Request → LineState → LineState → Type 0
+ChangesFrontAlone (gives machine (inputs.Level line on)) before after =
     (was now : Record) → HasRecord before machine was → KeepsRecord after machine now
     → was.id ≡ now.id → (now ≡ was) ⊎ IsFailedFront before after machine was now
 ChangesFrontAlone _ before after = Unit {0}
@@ -95,5 +95,5 @@ AreContentsWhole s _ _ = Unit {0}
 abbrev pub ContentsStayWhole : Type 0
 ContentsStayWhole =
     (asked : List TrackLine) (points : List Point) (n : ℕ) → AllByRecursion IsFitTrack asked
-    → IsShort no_line points → IsRun no_line asked points → has_lie (take n points) ≡ false
+    → IsShort no_line points → IsRun no_line asked points → IsHonest asked points n
     → AreContentsWhole no_line asked (take n points)

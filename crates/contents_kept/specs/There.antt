@@ -1,9 +1,9 @@
 -- A STANDING NAMES WHAT IS THERE: a machine of the line, or a gap that has a machine on both sides.
-use Rattle.std.specs.Prelude.{List, false, length, take, ℕ, ◌+◌, ◌≡◌, ◌≤◌}
+use Rattle.std.specs.Prelude.{List, length, take, ℕ, ◌+◌, ◌≡◌, ◌≤◌}
 use Rattle.std.specs.List.{AllByRecursion}
 use Rattle.standings.specs.Standing.{HasStanding, Place}
 use Rattle.standings.specs.declared.standing.Standing.TheVariants.{Between, With}
-use Rattle.line_step.specs.Lies.{has_lie}
+use Rattle.line_step.specs.Homes.{IsHonest}
 use Rattle.line_step.specs.Tracks.{TrackLine}
 use Rattle.line_step.specs.Runs.{IsRun, Point, IsShort}
 use Rattle.line_step.specs.State.{LineState, marks_in, no_line}
@@ -23,5 +23,5 @@ NamesWhatIsThere s =
 abbrev pub StandingsNameWhatIsThere : Type 0
 StandingsNameWhatIsThere =
     (asked : List TrackLine) (points : List Point) (n : ℕ) → AllByRecursion IsFitTrack asked
-    → IsShort no_line points → IsRun no_line asked points → has_lie (take n points) ≡ false
+    → IsShort no_line points → IsRun no_line asked points → IsHonest asked points n
     → AllByRecursion (λ (point : Point). NamesWhatIsThere point.after) (take n points)

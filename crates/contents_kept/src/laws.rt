@@ -4,12 +4,12 @@ ghost use Rattle.contents_kept.specs.Contents.{ContentsStayWhole};
 ghost use Rattle.contents_kept.specs.Records.{ContentsAreKept};
 ghost use Rattle.contents_kept.specs.There.{StandingsNameWhatIsThere};
 
-/// Over each line of a script, up to the first one that told of a sensor event that was not: what
-/// a machine has of a board before the line, kept, in its outlet or in its intake, and keeps
-/// behind it, is the same record with all its parts, unless the line tells that this machine
-/// marked that board, or that the board has a circuit more; then it is that record with the quality
-/// of the mark, or with that circuit behind those that it had. What its outlet holds
-/// behind the line is the same in any case. So a record that comes back is the one that was
+/// Over each line of a script, up to the first one that told of a sensor event that was not, or let a
+/// board come from another lane to where it is at home already: what a machine has of a board
+/// before the line, kept, in its outlet or in its intake, and keeps behind it, is the same record
+/// with all its parts, unless the line tells that this machine marked that board, or that the board
+/// has a circuit more; then it is that record with the quality of the mark, or with that circuit
+/// behind those that it had. What its outlet holds behind the line is the same in any case. So a record that comes back is the one that was
 /// opened, and one that settles the one that the intake held. A line that sets a level of a
 /// bridge's segment changes no record of the bridge but the front one, to failed.
 pub fn contents_stay_whole()

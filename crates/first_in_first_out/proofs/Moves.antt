@@ -1,7 +1,6 @@
 -- Which moves are told: that of the line which moves a board, and no others.
 use Rattle.std.proofs.Common.{List, Ok, [], ap, refl, subst, sym, ℕ, ◌++◌, ◌+◌, ◌-◌, ◌∙◌, ◌∷◌, ◌≡◌}
 use Rattle.std.specs.List.{AllByRecursion}
-use Rattle.line_script.specs.declared.line.ScriptLine.{ScriptLine}
 use Rattle.line_world.specs.FloorPlan.{FloorPlan, IsWhole, gap_at}
 use Rattle.line_world.specs.Moved.{IsMove, leaves}
 use Rattle.line_world.specs.Moves.{Around, around_of, floor_move}
@@ -21,7 +20,7 @@ use Rattle.line_step.specs.State.{LineState, one_more}
 use Rattle.line_step.specs.Steps.{MachineSteps, is_second, read_by}
 use Rattle.one_standing.specs.Told.{IsTold, told_first, told_later}
 use Rattle.line_step.proofs.Remarks.{IsRemark, Passes, acts_pass, all_pass, standings_remarks, unvouched_remarks}
-use Rattle.line_step.proofs.Requests.{Request, added_told, request_of}
+use Rattle.line_step.specs.Requests.{Request, added_told}
 use Rattle.line_step.proofs.Effects.{Effect, added_remarks, becomes_by, line_effect, spoil_remarks}
 use Rattle.line_step.proofs.Effects as effects
 
@@ -68,8 +67,8 @@ effect_tells : (number : ℕ) (request : Request) (before next : LineState) (tol
     → AllTell (Moved before next) told
 effect_tells number request before next told (effects.rests _ what remarks b) =
     becomes_by (λ s ts. AllTell (Moved before s) ts) b (all_pass what (remarks_tell (Moved before before)) remarks)
-effect_tells number request before next told (effects.adds is_bridge capacity used may b) =
-    let now : LineState = one_more is_bridge capacity used before in
+effect_tells number request before next told (effects.adds lane is_bridge capacity used may b) =
+    let now : LineState = one_more lane is_bridge capacity used before in
     becomes_by (λ s ts. AllTell (Moved before s) ts) b (all_pass (added_told is_bridge capacity before) (remarks_tell (Moved before now)) (added_remarks is_bridge capacity before))
 effect_tells number request before next told (effects.steps m input given may did) = step_tells (Moved before next) number m input before next told did
 effect_tells number request before next told (effects.connects m may did) =
@@ -88,12 +87,12 @@ effect_tells number request before next told (effects.unsees m side may b) =
     becomes_by (λ s ts. AllTell (Moved before s) ts) b (tt, all_pass (unvouched_told before.unvouched) (remarks_tell (Moved before (unseen number m side before))) (unvouched_remarks before.unvouched))
 
 -- EACH LINE
-pub line_moved : (number : ℕ) (line : ScriptLine) (before after : LineState) (told : List Happening) (gap : ℕ) (step : Move)
-    → LineSteps number line before after told → IsTold (happenings.Moved gap step) told → Moved before after gap step
-line_moved number line before after told gap step steps is =
+pub line_moved : (number : ℕ) (request : Request) (before after : LineState) (told : List Happening) (gap : ℕ) (step : Move)
+    → LineSteps number request before after told → IsTold (happenings.Moved gap step) told → Moved before after gap step
+line_moved number request before after told gap step steps is =
     let next : LineState = steps.next in
     let all : AllTell (Moved before next) (steps.done ++ standings_told before next) =
-    both_tell (Moved before next) steps.done (standings_told before next) (effect_tells number (request_of line) before next steps.done (line_effect number line before next steps.done steps.does))
+    both_tell (Moved before next) steps.done (standings_told before next) (effect_tells number request before next steps.done (line_effect number request before next steps.done steps.does))
     (all_pass (standings_told before next) (remarks_tell (Moved before next)) (standings_remarks before next)) in
     let m : Moved before next gap step = among_told (Moved before next) is (subst (λ (hs : List Happening). AllTell (Moved before next) hs) (sym steps.told_is) all) in
     record { floor = m.floor; done = m.done; now = ap (λ (s : LineState). s.world.floor) steps.after_is ∙ m.now }
@@ -101,7 +100,7 @@ line_moved number line before after told gap step steps is =
 -- of a track
 pub track_moved : (number : ℕ) (line : TrackLine) (before after : LineState) (told : List Happening) (gap : ℕ) (step : Move)
     → TrackSteps number line before after told → IsTold (happenings.Moved gap step) told → Moved before after gap step
-track_moved number (own_line line) before after told gap step steps is = line_moved number line before after told gap step steps is
+track_moved number (own_line request) before after told gap step steps is = line_moved number request before after told gap step steps.0 is
 track_moved number other_line before after told gap step steps is = elim (subst (λ (hs : List Happening). IsTold (happenings.Moved gap step) hs) steps.1 is) [ ]
 
 -- ---- the move `left`

@@ -162,5 +162,5 @@ none_held (suc place) = refl
 -- THE LAW
 pub first_in_first_out : SaysAlone → ConnectsBear → FirstInFirstOut
 first_in_first_out alone connects asked points n machine fit few run honest counted =
-    run_in_order alone machine [] no_line asked points n counted none_stood run
+    run_in_order alone machine [] no_line asked points n counted none_stood.stood run
     (run_stood alone connects no_line asked points n fit few none_stood run honest) (none_held machine)

@@ -10,7 +10,7 @@ use Rattle.standings.specs.Ledger.{are_different}
 use Rattle.standings.specs.Marks.{has_id}
 use Rattle.one_standing.proofs.LedgerSteps.{all_of, dropped_ids, settled_ids}
 use Rattle.one_standing.proofs.LedgerTurns.{different_first, different_rest}
-use Rattle.one_standing.proofs.LedgerWalk.{Announces, Did, Hand, Walk, are_silent, did, hand_inserts, hand_removes, hand_replaces, hand_walks, is_silent, says_last, says_more, says_start, walk_drops, walk_end, walk_leaves, walk_loses, walk_on, walk_opens, walk_returns, walk_settles}
+use Rattle.one_standing.proofs.LedgerWalk.{Announces, Did, Hand, Walk, are_silent, did, hand_gets, hand_gives, hand_inserts, hand_removes, hand_replaces, hand_walks, is_silent, says_last, says_more, says_start, walk_drops, walk_end, walk_leaves, walk_loses, walk_on, walk_opens, walk_returns, walk_settles}
 use Rattle.first_in_first_out.specs.Order.{order_with}
 
 -- ---- the order behind some acts
@@ -66,6 +66,8 @@ silent_told (acts.Deed (deeds.Drops id)) told is k = not_so is
 silent_told (acts.Inserts id) told is k = not_so is
 silent_told (acts.Removes id) told is k = not_so is
 silent_told (acts.Replaces old new) told is k = not_so is
+silent_told (acts.Gives id to) told is k = not_so is
+silent_told (acts.Gets id) told is k = not_so is
 silent_told _ told is k = record { leads = k.leads; firsts = (tt, k.firsts) }
 
 all_silent : (order : List ℕ) (told : List Act) → are_silent told ≡ true → Queues order told order
@@ -130,6 +132,8 @@ hand_queues : {New : ℕ → Type 0} {own end : Own} {told : List Act} → Hand 
 hand_queues (hand_walks walk) is = walk_queues walk
 hand_queues (hand_inserts {id = id} {ids = ids} {held = held} new) is = record { leads = append_assoc (one_of held) ids (id ∷ []); firsts = (tt, tt) }
 hand_queues (hand_removes {id = id} {ids = ids} {held = held} {taking = taking} has) is = record { leads = removed held ids (one_of taking) id is has; firsts = (tt, tt) }
+hand_queues (hand_gives {id = id} {ids = ids} {held = held} {taking = taking} has) is = record { leads = removed held ids (one_of taking) id is has; firsts = (tt, tt) }
+hand_queues (hand_gets {id = id} {ids = ids} {held = held}) is = record { leads = append_assoc (one_of held) ids (id ∷ []); firsts = (tt, tt) }
 hand_queues (hand_replaces {old = old} {new = new} {ids = ids} {held = held} {taking = taking} has made) is = record { leads = replaced held ids (one_of taking) old new is has; firsts = (tt, tt) }
 
 announces_queues : {own end : Own} {told : List Act} → Announces own told end → Queues (queue_of own) told (queue_of end)

@@ -9,6 +9,6 @@ use Rattle.first_in_first_out.specs.Along.{OrderAlong}
 use Rattle.first_in_first_out.proofs.Orders.{line_in_order}
 
 pub order_along : SaysAlone → ConnectsBear → OrderAlong
-order_along alone connects line before after told reached steps none =
-    let was : Stood before = stood_before alone connects line before after told reached steps none in
-    record { each = λ machine counted. line_in_order alone (before.lines + 1) (own_line line) before after told machine counted was steps }
+order_along alone connects request before after told reached from steps none =
+    let was : Stood before = (stood_before alone connects request before after told reached steps none).stood in
+    record { each = λ machine counted. line_in_order alone (before.lines + 1) (own_line request) before after told machine counted was (steps, from) }

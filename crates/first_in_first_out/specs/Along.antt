@@ -1,9 +1,10 @@
 -- FIRST IN, FIRST OUT, a line at a time.
 use Rattle.std.specs.Prelude.{List, None, ℕ, ◌+◌, ◌≡◌, ◌≤◌}
-use Rattle.line_script.specs.declared.line.ScriptLine.{ScriptLine}
 use Rattle.line_report.specs.declared.happening.Happening.{Happening}
+use Rattle.line_step.specs.Requests.{Request}
 use Rattle.line_step.specs.Lines.{LineSteps}
 use Rattle.line_step.specs.State.{LineState}
+use Rattle.line_step.specs.Tracks.{ComesFromElsewhere}
 use Rattle.one_standing.specs.Reached.{IsReached}
 use Rattle.first_in_first_out.specs.Order.{GoesInOrder, held_and_kept}
 
@@ -17,6 +18,6 @@ pub record GoInOrder (before after : LineState) (told : List Happening) : Type 0
 -- a board come or go unseen
 abbrev pub OrderAlong : Type 0
 OrderAlong =
-    (line : ScriptLine) (before after : LineState) (told : List Happening) → IsReached before
-    → LineSteps (before.lines + 1) line before after told → after.unvouched ≡ None
+    (request : Request) (before after : LineState) (told : List Happening) → IsReached before
+    → ComesFromElsewhere request before → LineSteps (before.lines + 1) request before after told → after.unvouched ≡ None
     → GoInOrder before after told

@@ -14,7 +14,7 @@ use Rattle.node_core.specs.declared.act.Act.TheVariants as acts
 use Rattle.node_core.specs.declared.act.Deed.TheVariants as deeds
 use Rattle.line_report.specs.declared.happening.Happening.{Happening}
 use Rattle.line_report.specs.declared.happening.Happening.TheVariants as happenings
-use Rattle.line_step.specs.Lies.{has_lie}
+use Rattle.line_step.specs.Homes.{IsHonest}
 use Rattle.line_step.specs.Numbered.{node_at}
 use Rattle.line_step.specs.Tracks.{TrackLine}
 use Rattle.line_step.specs.Runs.{IsRun, Point, IsShort}
@@ -24,14 +24,17 @@ use Rattle.one_standing.specs.Told.{IsTold}
 
 -- ---- the order of a machine
 
--- a board that is inserted, or settles, comes last; another that replaces one comes in its place;
--- one that is removed, that leaves, or is lost, goes. (A board that opens or returns is in the
+-- a board that is inserted, that settles, or comes from another lane, comes last; another that
+-- replaces one comes in its place; one that is removed, that leaves, is lost, or goes to another
+-- lane, goes. (A board that opens or returns is in the
 -- order before and behind.)
 abbrev pub order_with : List ℕ → Act → List ℕ
 order_with order (acts.Inserts id) = order ++ id ∷ []
 order_with order (acts.Deed (deeds.Settles id)) = order ++ id ∷ []
 order_with order (acts.Replaces old new) = with_id_instead old new order
 order_with order (acts.Removes id) = without_id id order
+order_with order (acts.Gives id to) = without_id id order
+order_with order (acts.Gets id) = order ++ id ∷ []
 order_with order (acts.Deed (deeds.Leaves id)) = without_id id order
 order_with order (acts.Deed (deeds.Loses id)) = without_id id order
 order_with order _ = order
@@ -104,5 +107,5 @@ abbrev pub FirstInFirstOut : Type 0
 FirstInFirstOut =
     (asked : List TrackLine) (points : List Point) (n machine : ℕ)
     → AllByRecursion IsFitTrack asked → IsShort no_line points
-    → IsRun no_line asked points → has_lie (take n points) ≡ false → 1 ≤ machine
+    → IsRun no_line asked points → IsHonest asked points n → 1 ≤ machine
     → KeepsOrder machine [] no_line (take n points)

@@ -9,7 +9,6 @@ use Rattle.forecast_query.specs.Forecasts.{most_forecasts}
 use Rattle.supervisory_core.specs.declared.order.Order.{Order}
 use Rattle.supervisory_core.specs.Orders.{most_open, unanswered}
 use Rattle.hermes_horizontal.specs.declared.message.Info.{Info}
-use Rattle.line_script.specs.declared.line.ScriptLine.{ScriptLine}
 use Rattle.line_link.specs.Link.{connected_of}
 use Rattle.line_link.specs.declared.link.Connected.{Connected}
 use Rattle.line_link.specs.declared.link.Connected.TheVariants as connections
@@ -35,7 +34,7 @@ use Rattle.line_step.specs.Runs.{Point, IsRun, state_behind}
 use Rattle.line_step.proofs.Getting.{get_may}
 use Rattle.line_step.proofs.Numbers.{machine_set_other, machine_set_own, machine_within, same_or_not}
 use Rattle.line_step.proofs.Opening.{steps_open}
-use Rattle.line_step.proofs.Requests.{Request, request_of}
+use Rattle.line_step.specs.Requests.{Request}
 use Rattle.line_step.proofs.Turns.{LineTurns, line_turns}
 use Rattle.line_step.proofs.Turns as turns
 use Rattle.line_bounds.specs.Within.{EachMachineStaysWithin, HoldsWithin, StaysWithin}
@@ -106,14 +105,16 @@ step_all : (number machine : ℕ) (input : Input) (before after : LineState) (to
     → Fits number machine input before after told steps → AllHold before → AllHold after
 step_all number machine input before after told steps fits all k = step_at number k machine input before after told (same_or_not k machine) steps fits all
 
--- ---- one step, where its input puts in no board
+-- ---- one step, where its input brings no board
 
 abbrev IsNoInsert : Input → Type 0
 IsNoInsert (inputs.Insert barcode) = ⊥
+IsNoInsert (inputs.Gets board) = ⊥
 IsNoInsert _ = Unit {0}
 
 plain_fits : (most : ℕ) (maker : Maker) (input : Input) (words : List Word) (body : Body) → IsNoInsert input → HasPlaceFor most (event_of maker input words) body
 plain_fits most maker (inputs.Insert barcode) words body none = absurd none
+plain_fits most maker (inputs.Gets board) words body none = absurd none
 plain_fits most maker (inputs.Replace id) words body none = other_fits most (next_id maker) id body
 plain_fits most maker _ words body none = tt
 
@@ -133,12 +134,12 @@ added_at [] node (suc place) = added_none refl
 added_at (n ∷ nodes) node zero = added_none refl
 added_at (n ∷ nodes) node (suc place) = added_at nodes node place
 
-added : (k : ℕ) (is_bridge : Bool) (capacity used : ℕ) (s : LineState) → Added (machine_in k s) (machine_in k (one_more is_bridge capacity used s)) (new_node (profile_of is_bridge (length s.machines + 1) capacity used))
-added zero is_bridge capacity used s = added_none refl
-added (suc place) is_bridge capacity used s = added_at s.machines (new_node (profile_of is_bridge (length s.machines + 1) capacity used)) place
+added : (k : ℕ) (lane : ℕ) (is_bridge : Bool) (capacity used : ℕ) (s : LineState) → Added (machine_in k s) (machine_in k (one_more lane is_bridge capacity used s)) (new_node (profile_of lane is_bridge (length s.machines + 1) capacity used))
+added zero lane is_bridge capacity used s = added_none refl
+added (suc place) lane is_bridge capacity used s = added_at s.machines (new_node (profile_of lane is_bridge (length s.machines + 1) capacity used)) place
 
-new_has : (number : ℕ) (is_bridge : Bool) (capacity used : ℕ) → Has (new_node (profile_of is_bridge number capacity used))
-new_has number is_bridge capacity used =
+new_has : (number : ℕ) (lane : ℕ) (is_bridge : Bool) (capacity used : ℕ) → Has (new_node (profile_of lane is_bridge number capacity used))
+new_has number lane is_bridge capacity used =
     let sound = first_sound capacity is_bridge in
     record {
       sound = sound;
@@ -156,9 +157,9 @@ more_by : (old new : Option NodeState) (node : NodeState) → Has node → Added
 more_by old new node has (added_none same) held = subst Holds (sym same) held
 more_by old new node has (added_here here) held = subst Holds (sym here) (is_there has)
 
-more_all : (is_bridge : Bool) (capacity used : ℕ) (s : LineState) → AllHold s → AllHold (one_more is_bridge capacity used s)
-more_all is_bridge capacity used s all k =
-    more_by (machine_in k s) (machine_in k (one_more is_bridge capacity used s)) (new_node (profile_of is_bridge (length s.machines + 1) capacity used)) (new_has (length s.machines + 1) is_bridge capacity used) (added k is_bridge capacity used s) (all k)
+more_all : (lane : ℕ) (is_bridge : Bool) (capacity used : ℕ) (s : LineState) → AllHold s → AllHold (one_more lane is_bridge capacity used s)
+more_all lane is_bridge capacity used s all k =
+    more_by (machine_in k s) (machine_in k (one_more lane is_bridge capacity used s)) (new_node (profile_of lane is_bridge (length s.machines + 1) capacity used)) (new_has (length s.machines + 1) lane is_bridge capacity used) (added k lane is_bridge capacity used s) (all k)
 
 -- ---- each turn
 
@@ -172,7 +173,7 @@ same_all s t same all (suc place) = subst Holds (sym (ap (λ (nodes : List NodeS
 
 turn_all : (number : ℕ) (request : Request) (before after : LineState) (told : List Happening) → LineTurns number before after told request → AllHold before → AllHold after
 turn_all number request before after told (turns.stays _ same none) all = same_all before after same all
-turn_all number request before after told (turns.adds is_bridge capacity used may b) all = subst AllHold (sym b.after_is) (more_all is_bridge capacity used before all)
+turn_all number request before after told (turns.adds lane is_bridge capacity used may b) all = subst AllHold (sym b.after_is) (more_all lane is_bridge capacity used before all)
 turn_all number request before after told (turns.steps machine input given may did) all =
     step_all number machine input before after told did (λ words. may_fits did.node input words (get_may machine input before did.node did.there may)) all
 turn_all number request before after told (turns.connects machine may did) all =
@@ -183,11 +184,11 @@ turn_all number request before after told (turns.flows machine side count may di
     plain_all number machine (inputs.Bytes side did.piece) (arrived machine side count before) after told tt did.steps (same_all before (arrived machine side count before) refl all)
 
 -- EACH LINE STEP
-steps_all : (number : ℕ) (line : ScriptLine) (before after : LineState) (told : List Happening) → LineSteps number line before after told → AllHold before → AllHold after
-steps_all number line before after told steps all =
+steps_all : (number : ℕ) (request : Request) (before after : LineState) (told : List Happening) → LineSteps number request before after told → AllHold before → AllHold after
+steps_all number request before after told steps all =
     let next = steps.next in
     let count : LineState = record next { lines = steps.lines } in
-    subst AllHold (sym steps.after_is) (same_all next count refl (turn_all number (request_of line) before next steps.done (line_turns number line before next steps.done steps.does) all))
+    subst AllHold (sym steps.after_is) (same_all next count refl (turn_all number request before next steps.done (line_turns number request before next steps.done steps.does) all))
 
 -- a line of another track
 beside_has : (node now : NodeState) → IsBesideNode node now → Has node → Has now
@@ -218,7 +219,7 @@ beside_all before after is all zero = not_there
 beside_all before after is all (suc place) = beside_hold before.machines after.machines place is.machines (all (suc place))
 
 track_all : (number : ℕ) (line : TrackLine) (before after : LineState) (told : List Happening) → TrackSteps number line before after told → AllHold before → AllHold after
-track_all number (own_line line) before after told steps all = steps_all number line before after told steps all
+track_all number (own_line request) before after told steps all = steps_all number request before after told steps.0 all
 track_all number other_line before after told steps all = beside_all before after steps.0 all
 
 -- ---- over a run

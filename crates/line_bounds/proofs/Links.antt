@@ -11,7 +11,6 @@ use Rattle.line_link.specs.Flow.{Stream, coming, flowing, with_arrival, with_nul
 use Rattle.line_link.specs.Link.{LinkParts, across, after_answer, after_close, after_connect, after_flow, after_send, after_spoil, answer_of, connected, connected_of, cut, flow_to, is_too_much, most_in_flight, next_number, no_link, texted, with_flow_to, within_limit}
 use Rattle.line_link.proofs.Coming.{coming_of_arrival}
 use Rattle.line_report.specs.declared.happening.Happening.{Happening}
-use Rattle.line_script.specs.declared.line.ScriptLine.{ScriptLine}
 use Rattle.node_core.specs.declared.act.Act.{Act}
 use Rattle.node_core.specs.declared.act.Act.TheVariants as acts
 use Rattle.node_core.specs.declared.act.Deed.{Deed}
@@ -27,7 +26,7 @@ use Rattle.line_step.specs.Steps.{MachineSteps, is_second, read_by}
 use Rattle.line_step.specs.World.{WorldParts, end_of, link_at, link_of, with_link}
 use Rattle.line_step.proofs.Keeps.{more_at}
 use Rattle.line_step.proofs.Numbers.{Written, link_beyond, link_set, link_set_other, nowhere, same_or_not, written}
-use Rattle.line_step.proofs.Requests.{Request, request_of}
+use Rattle.line_step.specs.Requests.{Request}
 use Rattle.line_step.proofs.Effects.{Effect, becomes_by, line_effect}
 use Rattle.line_step.proofs.Effects as effects
 use Rattle.line_bounds.specs.Within.{AreLinksWithin, EachLinkStaysWithin, IsLinkWithin}
@@ -146,12 +145,12 @@ connects_within number machine before after told twice all =
     (step_within number machine inputs.Connect (connecting machine before) twice.between twice.earlier twice.first
     (links_within link (after_connect parts) before.world all (connect_by parts.upstream (next_number parts.made) parts (all link))))
 
-more_within : (is_bridge : Bool) (capacity used : ℕ) (s : LineState) → AreLinksWithin s → AreLinksWithin (one_more is_bridge capacity used s)
-more_within is_bridge capacity used s all link = subst IsLinkWithin (sym (more_at is_bridge capacity used s link)) (all link)
+more_within : (lane : ℕ) (is_bridge : Bool) (capacity used : ℕ) (s : LineState) → AreLinksWithin s → AreLinksWithin (one_more lane is_bridge capacity used s)
+more_within lane is_bridge capacity used s all link = subst IsLinkWithin (sym (more_at lane is_bridge capacity used s link)) (all link)
 
 effect_within : (number : ℕ) (request : Request) (before next : LineState) (told : List Happening) → Effect number before next told request → AreLinksWithin before → AreLinksWithin next
 effect_within number request before next told (effects.rests _ what remarks b) all = becomes_by (λ s ts. AreLinksWithin s) b all
-effect_within number request before next told (effects.adds is_bridge capacity used may b) all = becomes_by (λ s ts. AreLinksWithin s) b (more_within is_bridge capacity used before all)
+effect_within number request before next told (effects.adds lane is_bridge capacity used may b) all = becomes_by (λ s ts. AreLinksWithin s) b (more_within lane is_bridge capacity used before all)
 effect_within number request before next told (effects.steps machine input given may did) all = step_within number machine input before next told did all
 effect_within number request before next told (effects.connects machine may did) all = connects_within number machine before next told did all
 effect_within number request before next told (effects.flows machine side count may did) all = flows_within number machine side count before next told did all
@@ -167,14 +166,14 @@ effect_within number request before next told (effects.lies machine sensed may b
 effect_within number request before next told (effects.unsees machine side may b) all = becomes_by (λ s ts. AreLinksWithin s) b all
 
 -- EACH LINE STEP
-steps_within : (number : ℕ) (line : ScriptLine) (before after : LineState) (told : List Happening) → LineSteps number line before after told → AreLinksWithin before → AreLinksWithin after
-steps_within number line before after told steps all =
+steps_within : (number : ℕ) (request : Request) (before after : LineState) (told : List Happening) → LineSteps number request before after told → AreLinksWithin before → AreLinksWithin after
+steps_within number request before after told steps all =
     subst (λ (s : LineState). AreLinksWithin s) (sym steps.after_is)
-    (effect_within number (request_of line) before steps.next steps.done (line_effect number line before steps.next steps.done steps.does) all)
+    (effect_within number request before steps.next steps.done (line_effect number request before steps.next steps.done steps.does) all)
 
 -- a line of another track changes no link
 track_within : (number : ℕ) (line : TrackLine) (before after : LineState) (told : List Happening) → TrackSteps number line before after told → AreLinksWithin before → AreLinksWithin after
-track_within number (own_line line) before after told steps all = steps_within number line before after told steps all
+track_within number (own_line request) before after told steps all = steps_within number request before after told steps.0 all
 track_within number other_line before after told steps all = λ link. subst (λ (w : WorldParts). IsLinkWithin (link_at link w)) (sym steps.0.world) (all link)
 
 -- ---- over a run

@@ -63,6 +63,8 @@ act_lies second machine (acts.Drive side on) world gap =
 act_lies second machine (acts.Inserts id) world gap = boards_lies world.floor machine _ gap
 act_lies second machine (acts.Removes id) world gap = boards_lies world.floor machine _ gap
 act_lies second machine (acts.Replaces old new) world gap = boards_lies world.floor machine _ gap
+act_lies second machine (acts.Gives id to) world gap = boards_lies world.floor machine _ gap
+act_lies second machine (acts.Gets id) world gap = boards_lies world.floor machine _ gap
 act_lies second machine (acts.Deed deed) world gap = ap (λ (f : FloorPlan). (gap_at f gap).lies) (deed_floor deed world)
 act_lies second machine _ world gap = refl
 
@@ -101,6 +103,8 @@ act_unread second machine (acts.Drive side on) world other = ap (λ (a : AtMachi
 act_unread second machine (acts.Inserts id) world other = boards_unread world.floor machine _ other
 act_unread second machine (acts.Removes id) world other = boards_unread world.floor machine _ other
 act_unread second machine (acts.Replaces old new) world other = boards_unread world.floor machine _ other
+act_unread second machine (acts.Gives id to) world other = boards_unread world.floor machine _ other
+act_unread second machine (acts.Gets id) world other = boards_unread world.floor machine _ other
 act_unread second machine (acts.Deed deed) world other = ap (λ (f : FloorPlan). (machine_at f other).unread) (deed_floor deed world)
 act_unread second machine _ world other = refl
 
@@ -120,6 +124,7 @@ none_unread second machine told world =
 abbrev pub makes_not : ℕ → Act → Bool
 makes_not x (acts.Inserts id) = not (id == x)
 makes_not x (acts.Replaces old new) = not (new == x)
+makes_not x (acts.Gets id) = not (id == x)
 makes_not x _ = true
 
 abbrev pub make_not : ℕ → List Act → Bool
@@ -176,6 +181,8 @@ act_lists x second machine (acts.Notices side) world other new lies = subst (λ 
 act_lists x second machine (acts.Drive side on) world other new lies = subst (λ (a : AtMachine). Lies x a.boards) (places_stay world.floor (link_of machine side) other (with_drive (gap_at world.floor (link_of machine side)) side on)) lies
 act_lists x second machine (acts.Inserts id) world other new lies = boards_lists x world.floor machine _ other (λ l. lies_last id (machine_at world.floor machine).boards (not-true (id == x) new) l) lies
 act_lists x second machine (acts.Removes id) world other new lies = boards_lists x world.floor machine _ other (λ l. lies_without x id (machine_at world.floor machine).boards l) lies
+act_lists x second machine (acts.Gives id to) world other new lies = boards_lists x world.floor machine _ other (λ l. lies_without x id (machine_at world.floor machine).boards l) lies
+act_lists x second machine (acts.Gets id) world other new lies = boards_lists x world.floor machine _ other (λ l. lies_last id (machine_at world.floor machine).boards (not-true (id == x) new) l) lies
 act_lists x second machine (acts.Replaces old now) world other new lies = boards_lists x world.floor machine _ other (λ l. lies_renamed x old now (machine_at world.floor machine).boards (not-true (now == x) new) l) lies
 act_lists x second machine (acts.Deed deed) world other new lies = subst (λ (f : FloorPlan). Lies x (machine_at f other).boards) (deed_floor deed world) lies
 act_lists x second machine _ world other new lies = lies

@@ -120,6 +120,8 @@ is_inner (acts.Deed (deeds.Leaves id)) = false
 is_inner (acts.Inserts id) = false
 is_inner (acts.Removes id) = false
 is_inner (acts.Replaces old new) = false
+is_inner (acts.Gives id to) = false
+is_inner (acts.Gets id) = false
 is_inner _ = true
 
 abbrev pub are_inner : List Act → Bool

@@ -21,7 +21,7 @@ use Rattle.node_core.specs.declared.word.Word.{Word}
 use Rattle.machine_custody.specs.Flight.{AreOldest}
 use Rattle.node_core.specs.Own.{Own}
 use Rattle.one_standing.proofs.FactsBlame.{Front, front_of}
-use Rattle.one_standing.proofs.LedgerWalk.{Announces, Did, Hand, Walk, are_silent, did, hand_inserts, hand_removes, hand_replaces, hand_walks, is_silent, says_last, says_more, says_start, walk_drops, walk_end, walk_leaves, walk_loses, walk_on, walk_opens, walk_returns, walk_settles}
+use Rattle.one_standing.proofs.LedgerWalk.{Announces, Did, Hand, Walk, are_silent, did, hand_gets, hand_gives, hand_inserts, hand_removes, hand_replaces, hand_walks, is_silent, says_last, says_more, says_start, walk_drops, walk_end, walk_leaves, walk_loses, walk_on, walk_opens, walk_returns, walk_settles}
 use Rattle.line_history.specs.Opened.{gap_deed, gap_deeds, if_it, is_above, is_below, is_drop, is_other}
 use Rattle.line_history.specs.Settled.{is_start}
 use Rattle.line_history.proofs.LinkUp.{starts_of}
@@ -415,6 +415,8 @@ owned_hand : {New : ℕ → Type 0} {own end : Own} {told : List Act} → Hand N
 owned_hand (hand_walks walk) = owned_walk walk
 owned_hand (hand_inserts new) = owned_on refl owned_end
 owned_hand (hand_removes has) = owned_on refl owned_end
+owned_hand (hand_gives has) = owned_on refl owned_end
+owned_hand hand_gets = owned_on refl owned_end
 owned_hand (hand_replaces has new) = owned_on refl owned_end
 
 owned_says : {own end : Own} {told : List Act} → Announces own told end → Owned own.taking told

@@ -1,8 +1,8 @@
 -- Along a run: what the intake of a gap holds alone was let go there last, is kept above still, or is gone; and so what settles
 -- was let go last.
-use Rattle.std.proofs.Common.{Bool, List, None, Option, Some, [], ap, arith, eq-eqb, false, inl, inr, refl, suc, subst, sym, take, true, zero, ℕ, ◌++◌, ◌+◌, ◌==◌, ◌||◌, ◌∙◌, ◌∷◌, ◌≡◌, ◌≢◌, ◌≤◌, ◌⊎◌}
+use Rattle.std.proofs.Common.{Bool, List, None, Option, Some, [], ap, arith, eq-eqb, false, inl, inr, refl, suc, subst, sym, take, true, zero, ℕ, ◌++◌, ◌+◌, ◌==◌, ◌||◌, ◌∙◌, ◌∷◌, ◌≡◌, ◌≤◌, ◌⊎◌}
 use Rattle.std.specs.Prelude.{cond}
-use Rattle.std.specs.List.{AllByRecursion, list_any}
+use Rattle.std.specs.List.{list_any}
 use mathlib.Core.Bool.{and-false}
 use Rattle.line_base.specs.declared.states.Side.TheVariants.{Exit}
 use Rattle.board_record.specs.declared.sensed.Sensed.{Sensed}
@@ -26,24 +26,25 @@ use Rattle.custody.specs.LookBack.{has_heard_left}
 use Rattle.custody.specs.Words.{events_at}
 use Rattle.custody.proofs.Promised.{one_record}
 use Rattle.machine_custody.specs.Good.{Lies}
-use Rattle.line_step.specs.FloorIds.{boards_of, made_by}
+use Rattle.line_step.specs.FloorIds.{boards_of}
 use Rattle.line_step.specs.Tracks.{TrackLine, TrackSteps}
 use Rattle.line_step.specs.Numbered.{node_at}
 use Rattle.line_step.specs.Runs.{IsRun, Point}
 use Rattle.line_step.specs.State.{LineState, no_line}
 use Rattle.line_step.specs.Steps.{unread_by}
 use Rattle.line_step.proofs.FloorLaws.{Goes, track-goes}
-use Rattle.line_step.proofs.Makers.{IsOld}
 use Rattle.one_standing.specs.Carried.{Trace, between_of, stand_of}
 use Rattle.one_standing.specs.Places.{at_machine, lies_at}
 use Rattle.one_standing.specs.Relation.{Neighbours}
 use Rattle.one_standing.specs.Stands.{Stands}
 use Rattle.one_standing.proofs.ApartFloor.{counted, lies_on_floor}
-use Rattle.one_standing.proofs.ApartStep.{old_count}
+use Rattle.one_standing.proofs.ApartStep.{AreNews, IsNot, come_by, old_count}
 use Rattle.one_standing.proofs.Carrying.{SaysAlone}
-use Rattle.one_standing.proofs.LedgerMarks.{taken_old}
 use Rattle.one_standing.proofs.LineForms.{ConnectsBear}
-use Rattle.one_standing.proofs.LineRun.{AreStood, Stood, none_stood, run_stood}
+use Rattle.one_standing.proofs.LineRun.{AreStoodBy, Stood, StoodBy, none_stood, run_by}
+use Rattle.one_standing.proofs.MarksOf.{has_intake}
+use Rattle.one_standing.proofs.Comings.{mark_stays, track_news}
+use Rattle.line_step.specs.Homes.{AreNewcomers}
 use Rattle.line_history.specs.LetGo.{IsWhatLeft, KeepsWhatLeft, WhatSettlesLeft, held_above, is_leaving, let_go, settles_at, taken_below}
 use Rattle.line_history.specs.Settled.{entry_acts, settles}
 use Rattle.line_history.proofs.Folds.{Hearing, heard_all, none_heard}
@@ -140,6 +141,7 @@ pub record Line (gap : ℕ) (last : Option Record) (t t2 : Trace) (before after 
   pub goes : Goes before after told
   pub taken : taken_below before gap ≡ Some r
   pub taken2 : taken_below after gap ≡ Some r
+  pub stays : IsNot r.id (come_by told)
   pub was : Follows before gap last r
 
 let_go_is : (gap : ℕ) (last : Option Record) (before : LineState) (told : List Happening) (b : Bool) → list_any (is_leaving gap) told ≡ b → let_go gap last before told ≡ cond b (held_above before gap) last
@@ -150,21 +152,13 @@ same_record s gap t q r st held taken =
     let n : Neighbours (stand_of s gap) (between_of t s gap) (stand_of s (gap + 1)) = st.keeps.neighbours.at gap in
     one_record _ _ q r n.pair held taken
 
--- an id that was there is not made in the line
-made_apart : (x : ℕ) (old : ℕ → Type 0) (ids : List ℕ) → old x → AllByRecursion (λ (id : ℕ). (other : ℕ) → old other → other ≢ id) ids → AllByRecursion (λ (id : ℕ). id ≢ x) ids
-made_apart x old [] is all = tt
-made_apart x old (id ∷ ids) is all = (λ (same : id ≡ x). all.0 x is (sym same), made_apart x old ids is all.1)
-
-taken_is_old : (s : LineState) (gap : ℕ) (t : Trace) (r : Record) → Stands t s → taken_below s gap ≡ Some r → IsOld 1 s.machines r.id
-taken_is_old s gap t r st taken = taken_old (gap + 1) r.id st (ap id_of taken)
-
 -- beyond it was before the line
-was_beyond : (gap x : ℕ) (before after : LineState) (told : List Happening) → Stays before after told → AllByRecursion (λ (id : ℕ). id ≢ x) (made_by told) → IsBeyond after gap x → IsBeyond before gap x
-was_beyond gap x before after told s made (is_across left) = is_across (sym (s.lies gap) ∙ left)
-was_beyond gap x before after told s made (is_inside_there lies) = is_inside_there (s.lists x (gap + 1) made lies)
+was_beyond : (gap x : ℕ) (before after : LineState) (told : List Happening) → Stays before after told → IsNot x (come_by told) → IsBeyond after gap x → IsBeyond before gap x
+was_beyond gap x before after told s new (is_across left) = is_across (sym (s.lies gap) ∙ left)
+was_beyond gap x before after told s new (is_inside_there lies) = is_inside_there (s.lists x (gap + 1) new lies)
 
-off_still : (before after : LineState) (told : List Happening) (x : ℕ) → Goes before after told → IsOld 1 before.machines x → counted x (boards_of before) ≡ 0 → counted x (boards_of after) ≡ 0
-off_still before after told x goes old off = (let less = old_count before after told x goes old in omega (arith, less, off))
+off_still : (before after : LineState) (told : List Happening) (x : ℕ) → Goes before after told → IsNot x (come_by told) → counted x (boards_of before) ≡ 0 → counted x (boards_of after) ≡ 0
+off_still before after told x goes new off = (let less = old_count before after told x goes new in omega (arith, less, off))
 
 -- ---- the machine above is as it was
 
@@ -178,7 +172,7 @@ still_follows j last t t2 before after told r l same none = by l.was where
   by (is_held_still q held) = is_held_still q (ap (λ (b : Body). held_out b.outlet.phase) same ∙ held)
   by (was_let_go is) = was_let_go (stays ∙ is)
   by (is_kept_above kept) = is_kept_above (subst (λ (b : Body). Kept r.id b.kept) (sym same) kept)
-  by (is_off off) = is_off (off_still before after told r.id l.goes (taken_is_old before (j + 1) t r l.st l.taken) off)
+  by (is_off off) = is_off (off_still before after told r.id l.goes l.stays off)
 
 -- ---- it makes a step
 
@@ -215,9 +209,8 @@ held_follows j last t t2 before after told r q l stays s held true leaves =
     was_let_go (let_go_is (j + 1) last before told true leaves ∙ held ∙ ap (λ (x : Record). Some x) (same_record before (j + 1) t q r l.st held l.taken))
 held_follows j last t t2 before after told r q l stays s held false leaves =
     let same : q ≡ r = same_record before (j + 1) t q r l.st held l.taken in
-    let made = made_apart r.id (IsOld 1 before.machines) (made_by told) (taken_is_old before (j + 1) t r l.st l.taken) l.goes.fresh in
     follows_where t2 after (j + 1) (let_go (j + 1) last before told) r l.st2 l.taken2 (λ far.
-    (let was : IsBeyond before (j + 1) q.id = subst (λ (x : Record). IsBeyond before (j + 1) x.id) (sym same) (was_beyond (j + 1) r.id before after told stays made far) in
+    (let was : IsBeyond before (j + 1) q.id = subst (λ (x : Record). IsBeyond before (j + 1) x.id) (sym same) (was_beyond (j + 1) r.id before after told stays l.stays far) in
     let unread : List Sensed = unread_by (j + 1) before.world in
     let body : Body = (node_at before (j + 1)).lane.body in
     let left : tells_leaving (all_read s.desk unread body).acts ≡ true = leaves_told s.desk unread body body.outlet.phase (events_at Exit unread) refl refl (unread_leaves t before j q l.st held was) in
@@ -234,8 +227,8 @@ none_follows j last t t2 before after told r l stays s none false leaves = by l.
   by (was_let_go is) = was_let_go (let_go_is (j + 1) last before told false leaves ∙ is)
   by (is_kept_above kept) =
       follows_where t2 after (j + 1) (let_go (j + 1) last before told) r l.st2 l.taken2 (λ far.
-      not_above t before (j + 1) r.id l.st (was_beyond (j + 1) r.id before after told stays (made_apart r.id (IsOld 1 before.machines) (made_by told) (taken_is_old before (j + 1) t r l.st l.taken) l.goes.fresh) far) (kept_above t before j r.id l.st kept))
-  by (is_off off) = is_off (off_still before after told r.id l.goes (taken_is_old before (j + 1) t r l.st l.taken) off)
+      not_above t before (j + 1) r.id l.st (was_beyond (j + 1) r.id before after told stays l.stays far) (kept_above t before j r.id l.st kept))
+  by (is_off off) = is_off (off_still before after told r.id l.goes l.stays off)
 
 turn_follows : (j : ℕ) (last : Option Record) (t t2 : Trace) (before after : LineState) (told : List Happening) (r : Record) → Line (j + 1) last t t2 before after told r → Stays before after told → Turn j t before after told → Follows after (j + 1) (let_go (j + 1) last before told) r
 turn_follows j last t t2 before after told r l stays (is_still same none) = still_follows j last t t2 before after told r l same none
@@ -257,14 +250,14 @@ below_took j t before after told r st (has_stepped s) taken =
     let now : held_in (plain_step s.desk (unread_by (j + 1 + 1) before.world) s.event (node_at before (j + 1 + 1)).lane.body).body.intake.phase ≡ Some r = ap (λ (b : Body). held_in b.intake.phase) (sym s.body) ∙ taken in
     elim (does.comes r now) [ inl was ↦ inl was | inr started ↦ inr (subst (λ (b : Body). IsJustStarted b.intake.phase) (sym s.body) started, s.unread) ]
 
-line_follows_by : (j : ℕ) (last : Option Record) (t t2 : Trace) (before after : LineState) (told : List Happening) (r : Record) → Stands t before → Stands t2 after → Goes before after told → AllFollow before (j + 1) last → ((m : ℕ) → Turn m t before after told) → Kind before after told
+line_follows_by : (j : ℕ) (last : Option Record) (t t2 : Trace) (before after : LineState) (told : List Happening) (r : Record) → Stands t before → Stands t2 after → Goes before after told → AllFollow before (j + 1) last → ((q : Record) → taken_below before (j + 1) ≡ Some q → IsNot q.id (come_by told)) → ((m : ℕ) → Turn m t before after told) → Kind before after told
     → taken_below after (j + 1) ≡ Some r → Follows after (j + 1) (let_go (j + 1) last before told) r
-line_follows_by j last t t2 before after told r st st2 goes all turns (inl stills) taken =
+line_follows_by j last t t2 before after told r st st2 goes all news turns (inl stills) taken =
     let was : taken_below before (j + 1) ≡ Some r = ap (λ (b : Body). held_in b.intake.phase) (sym (stills (j + 1)).0) ∙ taken in
-    still_follows j last t t2 before after told r (record { st = st; st2 = st2; goes = goes; taken = was; taken2 = taken; was = all r was }) (stills j).0 (stills j).1
-line_follows_by j last t t2 before after told r st st2 goes all turns (inr stays) taken =
+    still_follows j last t t2 before after told r (record { st = st; st2 = st2; goes = goes; taken = was; taken2 = taken; stays = news r was; was = all r was }) (stills j).0 (stills j).1
+line_follows_by j last t t2 before after told r st st2 goes all news turns (inr stays) taken =
     elim (below_took j t before after told r st (turns (j + 1)) taken) [
-      | inl was ↦ turn_follows j last t t2 before after told r (record { st = st; st2 = st2; goes = goes; taken = was; taken2 = taken; was = all r was }) stays (turns j)
+      | inl was ↦ turn_follows j last t t2 before after told r (record { st = st; st2 = st2; goes = goes; taken = was; taken2 = taken; stays = news r was; was = all r was }) stays (turns j)
       | inr started ↦ follows_started t2 after (j + 1) (let_go (j + 1) last before told) r st2 taken started.0 started.1
     ]
 
@@ -272,13 +265,13 @@ line_follows_by j last t t2 before after told r st st2 goes all turns (inr stays
 none_taken : {X : Type 0} (t : Trace) (s : LineState) (r : Record) → Stands t s → taken_below s 0 ≡ Some r → X
 none_taken t s r st taken = absurd (let no : ◌≡◌ {A = Option Record} None (Some r) = sym (ap held_in (st.rest 0 refl).intake) ∙ taken in cc)
 
-line_follows : SaysAlone → (gap : ℕ) (last : Option Record) (number : ℕ) (line : TrackLine) (before after : LineState) (told : List Happening) → Stood before → Stood after → TrackSteps number line before after told → AllFollow before gap last → AllFollow after gap (let_go gap last before told)
-line_follows alone zero last number line before after told was now steps all r taken = none_taken now.trace after r now.stands taken
-line_follows alone (suc j) last number line before after told was now steps all r taken =
+line_follows : SaysAlone → (gap : ℕ) (last : Option Record) (number : ℕ) (line : TrackLine) (before after : LineState) (told : List Happening) → (was : Stood before) → Stood after → AreNews was.trace before told → TrackSteps number line before after told → AllFollow before gap last → AllFollow after gap (let_go gap last before told)
+line_follows alone zero last number line before after told was now news steps all r taken = none_taken now.trace after r now.stands taken
+line_follows alone (suc j) last number line before after told was now news steps all r taken =
     let gap : j + 1 ≡ suc j = omega arith in
     let goes : Goes before after told = track-goes number line before after told was.stands.ids steps in
     subst (λ (g : ℕ). AllFollow before g last → taken_below after g ≡ Some r → Follows after g (let_go g last before told) r) gap
-    (λ follows takes. line_follows_by j last was.trace now.trace before after told r was.stands now.stands goes follows (track_turn alone was.trace number line before after told was.stands steps) (track_kind number line before after told steps) takes) all taken
+    (λ follows takes. line_follows_by j last was.trace now.trace before after told r was.stands now.stands goes follows (λ q held. mark_stays was.stands news (has_intake {m = j + 1 + 1} held refl)) (track_turn alone was.trace number line before after told was.stands steps) (track_kind number line before after told steps) takes) all taken
 
 -- ---- what settles
 
@@ -313,16 +306,16 @@ line_settles alone gap h last number line before after told was steps t all earl
 
 -- ---- along a run
 
-run_keeps : SaysAlone → (gap : ℕ) (h : Hearing) (last : Option Record) (s : LineState) (asked : List TrackLine) (points : List Point) (n : ℕ) → Stood s → IsRun s asked points → AreStood (take n points) → Knows h (node_at s (gap + 1)).lane.body.intake → AllFollow s gap last
+run_keeps : SaysAlone → (gap : ℕ) (h : Hearing) (last : Option Record) (past : List Happening) (s : LineState) (asked : List TrackLine) (points : List Point) (n : ℕ) → StoodBy past s → IsRun s asked points → AreStoodBy past (take n points) → AreNewcomers past (take n asked) (take n points) → Knows h (node_at s (gap + 1)).lane.body.intake → AllFollow s gap last
     → KeepsWhatLeft gap last s (take n points)
-run_keeps alone gap h last s asked points zero was run all k follows = tt
-run_keeps alone gap h last s [] [] (suc n) was run all k follows = tt
-run_keeps alone gap h last s [] (point ∷ points) (suc n) was run all k follows = absurd run
-run_keeps alone gap h last s (line ∷ asked) [] (suc n) was run all k follows = absurd run
-run_keeps alone gap h last s (line ∷ asked) (point ∷ points) (suc n) was run all k follows =
-    let t : Told gap h s point.after point.told = line_told alone (s.lines + 1) gap h line s point.after point.told was run.0 k in (
-      line_settles alone gap h last (s.lines + 1) line s point.after point.told was run.0 t follows,
-      run_keeps alone gap (heard_all h (entry_acts (gap + 1) point.told)) (let_go gap last s point.told) point.after asked points n all.0 run.1 all.1 t.knows (line_follows alone gap last (s.lines + 1) line s point.after point.told was all.0 run.0 follows),
+run_keeps alone gap h last past s asked points zero was run all new k follows = tt
+run_keeps alone gap h last past s [] [] (suc n) was run all new k follows = tt
+run_keeps alone gap h last past s [] (point ∷ points) (suc n) was run all new k follows = absurd run
+run_keeps alone gap h last past s (line ∷ asked) [] (suc n) was run all new k follows = absurd run
+run_keeps alone gap h last past s (line ∷ asked) (point ∷ points) (suc n) was run all new k follows =
+    let t : Told gap h s point.after point.told = line_told alone (s.lines + 1) gap h line s point.after point.told was.stood run.0 k in (
+      line_settles alone gap h last (s.lines + 1) line s point.after point.told was.stood run.0 t follows,
+      run_keeps alone gap (heard_all h (entry_acts (gap + 1) point.told)) (let_go gap last s point.told) (past ++ point.told) point.after asked points n all.0 run.1 all.1 new.1 t.knows (line_follows alone gap last (s.lines + 1) line s point.after point.told was.stood all.0.stood (track_news (s.lines + 1) past line s point.after point.told was new.0 run.0) run.0 follows),
     )
 
 none_in : (machine : ℕ) → held_in (node_at no_line machine).lane.body.intake.phase ≡ None
@@ -335,4 +328,4 @@ none_follow gap last r taken = absurd (let no : ◌≡◌ {A = Option Record} No
 -- THE LAW
 pub what_settles_left : SaysAlone → ConnectsBear → WhatSettlesLeft
 what_settles_left alone connects asked points n gap fit few run honest =
-    run_keeps alone gap none_heard None no_line asked points n none_stood run (run_stood alone connects no_line asked points n fit few none_stood run honest) (none_knows none_heard (gap + 1)) (none_follow gap None)
+    run_keeps alone gap none_heard None [] no_line asked points n none_stood run (run_by alone connects [] no_line asked points n fit few none_stood run honest.told honest.newcomers) honest.newcomers (none_knows none_heard (gap + 1)) (none_follow gap None)

@@ -6,12 +6,11 @@ use Rattle.custody.proofs.AnnounceEntry.{same_board}
 use Rattle.one_standing.proofs.HandSteps.{own_gone}
 use mathlib.Core.Bool.{or-false}
 use Rattle.board_record.specs.declared.record.Record.{Record}
-use Rattle.line_script.specs.declared.line.ScriptLine.{ScriptLine}
-use Rattle.handover_out.specs.State.{board_of_phase as held_out}
+use Rattle.handover_out.specs.State.{OutState, board_of_phase as held_out}
 use Rattle.handover_out.specs.declared.phase.Phase.{Phase as Out}
 use Rattle.handover_in.specs.State.{board_of_phase as held_in}
 use Rattle.node_core.specs.Done.{Done}
-use Rattle.node_core.specs.Event.{Event, Mark, Sub}
+use Rattle.node_core.specs.Event.{Event, Gives, Mark, Sub}
 use Rattle.node_core.specs.Step.{plain_step}
 use Rattle.node_core.specs.declared.act.Act.{Act}
 use Rattle.node_core.specs.declared.act.Act.TheVariants as acts
@@ -19,7 +18,7 @@ use Rattle.node_core.specs.declared.act.Deed.TheVariants as deeds
 use Rattle.node_core.specs.declared.lane.Body.{Body}
 use Rattle.line_report.specs.declared.happening.Happening.{Happening}
 use Rattle.line_report.specs.declared.happening.Happening.TheVariants as happenings
-use Rattle.custody.specs.Contents.{Kept, kept_first}
+use Rattle.custody.specs.Contents.{IsRecent, Kept, kept_first}
 use Rattle.machine_custody.proofs.Keeping.{kept_lies}
 use Rattle.line_step.specs.FloorIds.{boards_of}
 use Rattle.line_step.specs.Lines.{LineSteps}
@@ -28,6 +27,7 @@ use Rattle.line_step.specs.Numbered.{node_at}
 use Rattle.line_step.specs.Runs.{IsRun, Point}
 use Rattle.line_step.specs.State.{LineState, no_line}
 use Rattle.line_step.specs.Steps.{unread_by}
+use Rattle.line_step.specs.Requests.{Request}
 use Rattle.line_step.proofs.FloorLaws.{Goes, track-goes}
 use Rattle.one_standing.specs.Carried.{Trace, between_of, stand_of}
 use Rattle.one_standing.specs.Mirrors.{scene_at}
@@ -36,10 +36,12 @@ use Rattle.one_standing.specs.Relation.{Owns}
 use Rattle.one_standing.specs.Stands.{Stands}
 use Rattle.one_standing.specs.Told.{IsTold, told_first as told_now, told_later as told_then}
 use Rattle.one_standing.proofs.ApartFloor.{counted, lies_on_floor}
-use Rattle.one_standing.proofs.ApartStep.{Parted, apart_removed, apart_replaced, gone_count, grown}
+use Rattle.one_standing.proofs.ApartStep.{AreNews, LayOn, PartedThen, apart_removed, apart_replaced, gone_count, grown}
 use Rattle.one_standing.proofs.Carrying.{SaysAlone}
 use Rattle.one_standing.proofs.LineForms.{ConnectsBear}
-use Rattle.one_standing.proofs.LineRun.{AreStood, Stood, none_stood, run_stood}
+use Rattle.one_standing.proofs.LineRun.{AreStoodBy, Stood, StoodBy, none_stood, run_by}
+use Rattle.one_standing.proofs.Comings.{track_news}
+use Rattle.line_step.specs.Homes.{AreNewcomers}
 use Rattle.line_history.specs.LetGo.{IsWhatLeft, KeepsWhatLeft, held_above, is_leaving, let_go, settles_at}
 use Rattle.line_history.specs.Offered.{IsAsOffered, IsLast, KeepsAsOffered, Offering, WhatSettlesWasOffered, is_hand, is_hand_at, none_offered, offered_gone, offers_act, offers_happening, offers_told, tells_hand}
 use Rattle.line_history.proofs.Courses.{Acted, Befalls, Course, IsByHand, by_hand, line_course, plainly, track_course}
@@ -171,18 +173,18 @@ kept_there t s j x st kept =
     let own : Owns (between_of t s j) (stand_of s (j + 1)) (between_of t s (j + 1)) = st.keeps.machines.at j in
     lies_at (kept_lies kept own.boards)
 
-taken_by : (t t2 : Trace) (before after : LineState) (told : List Happening) (m x : ℕ) (act : Act) → Stands t before → Goes before after told → LiesAt (stand_of before) (between_of t before) x (at_machine m) → ((k y : ℕ) → t2.gone k y ≡ grown m x t.gone k y) → TakesOut x act → IsTold (happenings.Done m act) told → Parted t2 after
-taken_by t t2 before after told m x _ st goes lies more takes_out is =
-    apart_removed t t2 before after told m x (at_machine m) st.ids goes is lies more (record { apart = st.keeps.apart; olds = st.olds })
-taken_by t t2 before after told m x _ st goes lies more (takes_instead {now = now}) is =
-    apart_replaced t t2 before after told m x now (at_machine m) st.ids goes is lies more (record { apart = st.keeps.apart; olds = st.olds })
+taken_by : (t t2 : Trace) (before after : LineState) (told : List Happening) (m x : ℕ) (act : Act) → Stands t before → Goes before after told → AreNews t before told → LiesAt (stand_of before) (between_of t before) x (at_machine m) → ((k y : ℕ) → t2.gone k y ≡ grown m x t.gone k y) → TakesOut x act → IsTold (happenings.Done m act) told → PartedThen (LayOn before) t t2 after
+taken_by t t2 before after told m x _ st goes news lies more takes_out is =
+    apart_removed t t2 before after told m x (at_machine m) st.ids goes news is lies more (record { apart = st.keeps.apart; olds = st.olds })
+taken_by t t2 before after told m x _ st goes news lies more (takes_instead {now = now}) is =
+    apart_replaced t t2 before after told m x now (at_machine m) st.ids goes news is lies more (record { apart = st.keeps.apart; olds = st.olds })
 
 -- so the machine keeps none of its id
-lost_not : {X : Type 0} (t t2 : Trace) (before after : LineState) (told : List Happening) (j x : ℕ) → Stands t before → Stands t2 after → Goes before after told → Kept x (node_at before (j + 1)).lane.body.kept → IsToldBy (j + 1) x told → Kept x (node_at after (j + 1)).lane.body.kept → X
-lost_not t t2 before after told j x st st2 goes was is now =
+lost_not : {X : Type 0} (t t2 : Trace) (before after : LineState) (told : List Happening) (j x : ℕ) → Stands t before → Stands t2 after → Goes before after told → AreNews t before told → Kept x (node_at before (j + 1)).lane.body.kept → IsToldBy (j + 1) x told → Kept x (node_at after (j + 1)).lane.body.kept → X
+lost_not t t2 before after told j x st st2 goes news was is now =
     let grows : Trace = record t { gone = grown (j + 1) x t.gone } in
-    let parted : Parted grows after = taken_by t grows before after told (j + 1) x is.act st goes (kept_there t before j x st was) (λ k y. refl) is.takes is.told_is in
-    let none : counted x (boards_of after) ≡ 0 = gone_count grows after (j + 1) x parted (own_gone (j + 1) x t.gone) in
+    let parted : PartedThen (LayOn before) t grows after = taken_by t grows before after told (j + 1) x is.act st goes news (kept_there t before j x st was) (λ k y. refl) is.takes is.told_is in
+    let none : counted x (boards_of after) ≡ 0 = gone_count grows after (j + 1) x (record { apart = parted.apart; olds = parted.olds }) (own_gone (j + 1) x t.gone) in
     let some : 1 ≤ counted x (boards_of after) = lies_on_floor t2 after x (at_machine (j + 1)) st2.ids.whole (kept_there t2 after j x st2 now) in
     absurd (omega (arith, none, some))
 
@@ -199,38 +201,44 @@ offered_kept x (says_moving is) same = absurd (let no : ◌≡◌ {A = Option �
 offered_kept x (says_stuck is) same = absurd (let no : ◌≡◌ {A = Option ℕ} None (Some x) = same in cc)
 offered_kept x says_ended same = absurd (let no : ◌≡◌ {A = Option ℕ} None (Some x) = same in cc)
 
-plain_markable : (event : Event) (touched : Option ℕ) → IsNoHand event → IsMarkable event touched
-plain_markable (Mark id quality) touched plain = absurd plain
-plain_markable (Sub id sub) touched plain = absurd plain
-plain_markable _ touched plain = tt
+plain_markable : (event : Event) (outlet : OutState) → IsNoHand event → IsMarkable event outlet
+plain_markable (Mark id quality) outlet plain = absurd plain
+plain_markable (Sub id sub) outlet plain = absurd plain
+plain_markable (Gives id to) outlet plain = absurd plain
+plain_markable _ outlet plain = tt
 
-markable : {m : ℕ} {line : ScriptLine} {touched : Option ℕ} {event : Event} → Befalls m line touched event → IsMarkable event touched
-markable {touched = touched} {event = event} (plainly plain) = plain_markable event touched plain
-markable (by_hand here free) = free
+markable : {m : ℕ} {request : Request} {last : Option ℕ} {outlet : OutState} {event : Event} → Befalls m request last outlet event → IsRecent last outlet → IsMarkable event outlet
+markable {outlet = outlet} {event = event} (plainly plain) recent = plain_markable event outlet plain
+markable (by_hand here free) recent = free recent
 
-acted_offers : (t t2 : Trace) (j : ℕ) (line : ScriptLine) (before after : LineState) (told : List Happening) (o : Offering) → Stands t before → Stands t2 after → Goes before after told → IsAsOf (node_at before (j + 1)).lane.body o → Acted j line before after told → IsAsOf (node_at after (j + 1)).lane.body (offers_told (j + 1) told o)
-acted_offers t t2 j line before after told o st st2 goes h a =
+recent_at : (t : Trace) (s : LineState) (j : ℕ) → Stands t s → IsRecent (node_at s (j + 1)).lane.body.last_offer (node_at s (j + 1)).lane.body.outlet
+recent_at t s j st =
+    let own : Owns (between_of t s j) (stand_of s (j + 1)) (between_of t s (j + 1)) = st.keeps.machines.at j in
+    own.recent
+
+acted_offers : (t t2 : Trace) (j : ℕ) (request : Request) (before after : LineState) (told : List Happening) (o : Offering) → Stands t before → Stands t2 after → Goes before after told → AreNews t before told → IsAsOf (node_at before (j + 1)).lane.body o → Acted j request before after told → IsAsOf (node_at after (j + 1)).lane.body (offers_told (j + 1) told o)
+acted_offers t t2 j request before after told o st st2 goes news h a =
     let d : Done = plain_step a.desk (unread_by (j + 1) before.world) a.event (node_at before (j + 1)).lane.body in
     let told_is : offers_told (j + 1) told o ≡ offers_acts d.acts o = offers_told_is (j + 1) told o ∙ (ap (λ (x : List Act). offers_acts x o) a.acts ∙ undriven_offers d.acts o) in
-    elim (step_offers a.desk (unread_by (j + 1) before.world) a.event (node_at before (j + 1)).lane.body (scene_at t before j) o (markable a.known) h) [
+    elim (step_offers a.desk (unread_by (j + 1) before.world) a.event (node_at before (j + 1)).lane.body (scene_at t before j) o (markable a.known (recent_at t before j st)) h) [
       | offers_so so ↦ subst (λ (b : Body). IsAsOf b (offers_told (j + 1) told o)) (sym a.body) (subst (λ (x : Offering). IsAsOf d.body x) (sym told_is) so)
       | offers_lost x offered takes kept ↦
-          lost_not t t2 before after told j x st st2 goes (offered_kept x h offered) (takes_told (j + 1) told (subst (λ (xs : List Act). HasAct (TakesOut x) xs) (sym a.acts) (undriven_takes d.acts takes)))
+          lost_not t t2 before after told j x st st2 goes news (offered_kept x h offered) (takes_told (j + 1) told (subst (λ (xs : List Act). HasAct (TakesOut x) xs) (sym a.acts) (undriven_takes d.acts takes)))
           (subst (λ (b : Body). Kept x b.kept) (sym a.body) kept)
     ]
 
-course_offers : (t t2 : Trace) (j : ℕ) (line : ScriptLine) (before after : LineState) (told : List Happening) (o : Offering) → Stands t before → Stands t2 after → Goes before after told → IsAsOf (node_at before (j + 1)).lane.body o → Course j line before after told → IsAsOf (node_at after (j + 1)).lane.body (offers_told (j + 1) told o)
-course_offers t t2 j line before after told o st st2 goes h (has_stepped a) = acted_offers t t2 j line before after told o st st2 goes h a
-course_offers t t2 j line before after told o st st2 goes h (is_still same none) =
+course_offers : (t t2 : Trace) (j : ℕ) (request : Request) (before after : LineState) (told : List Happening) (o : Offering) → Stands t before → Stands t2 after → Goes before after told → AreNews t before told → IsAsOf (node_at before (j + 1)).lane.body o → Course j request before after told → IsAsOf (node_at after (j + 1)).lane.body (offers_told (j + 1) told o)
+course_offers t t2 j request before after told o st st2 goes news h (has_stepped a) = acted_offers t t2 j request before after told o st st2 goes news h a
+course_offers t t2 j request before after told o st st2 goes news h (is_still same none) =
     let told_is : offers_told (j + 1) told o ≡ o = offers_told_is (j + 1) told o ∙ ap (λ (x : List Act). offers_acts x o) none in
     subst (λ (b : Body). IsAsOf b (offers_told (j + 1) told o)) (sym same) (subst (λ (x : Offering). IsAsOf (node_at before (j + 1)).lane.body x) (sym told_is) h)
 
-line_offers : (number : ℕ) (line : TrackLine) (before after : LineState) (told : List Happening) (o : ℕ → Offering) → Stood before → Stood after → TrackSteps number line before after told → AllOffered before o → AllOffered after (λ (m : ℕ). offers_told m told (o m))
-line_offers number line before after told o was now steps all zero = says_idle
-line_offers number line before after told o was now steps all (suc j) =
+line_offers : (number : ℕ) (line : TrackLine) (before after : LineState) (told : List Happening) (o : ℕ → Offering) → (was : Stood before) → Stood after → AreNews was.trace before told → TrackSteps number line before after told → AllOffered before o → AllOffered after (λ (m : ℕ). offers_told m told (o m))
+line_offers number line before after told o was now news steps all zero = says_idle
+line_offers number line before after told o was now news steps all (suc j) =
     let same : j + 1 ≡ suc j = omega arith in
     subst (λ (m : ℕ). IsAsOf (node_at before m).lane.body (o m) → IsAsOf (node_at after m).lane.body (offers_told m told (o m))) same
-    (λ h. course_offers was.trace now.trace j (asked_on line) before after told (o (j + 1)) was.stands now.stands (track-goes number line before after told was.stands.ids steps) h (track_course number line before after told steps j)) (all (suc j))
+    (λ h. course_offers was.trace now.trace j (asked_on line) before after told (o (j + 1)) was.stands now.stands (track-goes number line before after told was.stands.ids steps) news h (track_course number line before after told steps j)) (all (suc j))
 
 -- ---- what was let go was offered
 
@@ -251,10 +259,10 @@ line_gone gap last off o before told false is h so b found = so b found
 
 -- ---- what settles is kept
 
-acted_kept : (j id : ℕ) (line : ScriptLine) (before after : LineState) (told : List Happening) (o : Offering) (board : Record) → IsAsOf (node_at before (j + 1)).lane.body o → held_in (node_at before (j + 1)).lane.body.intake.phase ≡ Some board
-    → IsAmong id (settles_acts (done_by (j + 1) told) []) → tells_hand (j + 1) told ≡ false → Course j line before after told → IsLast board (node_at after (j + 1)).lane.body.kept
-acted_kept j id line before after told o board h taken among none (is_still same nothing) = elim (subst (λ (x : List Act). IsAmong id (settles_acts x [])) nothing among) [ ]
-acted_kept j id line before after told o board h taken among none (has_stepped a) =
+acted_kept : (j id : ℕ) (request : Request) (before after : LineState) (told : List Happening) (o : Offering) (board : Record) → IsAsOf (node_at before (j + 1)).lane.body o → held_in (node_at before (j + 1)).lane.body.intake.phase ≡ Some board
+    → IsAmong id (settles_acts (done_by (j + 1) told) []) → tells_hand (j + 1) told ≡ false → Course j request before after told → IsLast board (node_at after (j + 1)).lane.body.kept
+acted_kept j id request before after told o board h taken among none (is_still same nothing) = elim (subst (λ (x : List Act). IsAmong id (settles_acts x [])) nothing among) [ ]
+acted_kept j id request before after told o board h taken among none (has_stepped a) =
     let d : Done = plain_step a.desk (unread_by (j + 1) before.world) a.event (node_at before (j + 1)).lane.body in
     let hands : are_hand d.acts ≡ false = sym (undriven_hand d.acts) ∙ (ap are_hand (sym a.acts) ∙ (sym (hand_told (j + 1) told) ∙ none)) in
     let found : IsAmong id (settles_acts d.acts []) = subst (λ (x : List ℕ). IsAmong id x) (ap (λ (x : List Act). settles_acts x []) a.acts ∙ undriven_settles d.acts []) among in
@@ -286,14 +294,14 @@ pub record AreOffered (s : LineState) : Type 0 where
 pub none_are_offered : AreOffered no_line
 none_are_offered = record { said = λ m. none_offered; all = none_all_offered }
 
-pub line_are_offered : (number : ℕ) (line : TrackLine) (before after : LineState) (told : List Happening) → Stood before → Stood after → TrackSteps number line before after told → AreOffered before → AreOffered after
-line_are_offered number line before after told was now steps o = record { said = λ m. offers_told m told (o.said m); all = line_offers number line before after told o.said was now steps o.all }
+pub line_are_offered : (number : ℕ) (line : TrackLine) (before after : LineState) (told : List Happening) → (was : Stood before) → Stood after → AreNews was.trace before told → TrackSteps number line before after told → AreOffered before → AreOffered after
+line_are_offered number line before after told was now news steps o = record { said = λ m. offers_told m told (o.said m); all = line_offers number line before after told o.said was now news steps o.all }
 
 -- a board that settles at a machine in a line which isn't of a hand at it
-pub line_keeps_last : (number j id : ℕ) (line : ScriptLine) (before after : LineState) (told : List Happening) → AreOffered before → LineSteps number line before after told → (IsByHand (j + 1) line → ⊥) → IsAmong id (settles_acts (done_by (j + 1) told) [])
+pub line_keeps_last : (number j id : ℕ) (request : Request) (before after : LineState) (told : List Happening) → AreOffered before → LineSteps number request before after told → (IsByHand (j + 1) request → ⊥) → IsAmong id (settles_acts (done_by (j + 1) told) [])
     → (r : Record) × (r.id ≡ id) × (held_in (node_at before (j + 1)).lane.body.intake.phase ≡ Some r) × IsLast r (node_at after (j + 1)).lane.body.kept
-line_keeps_last number j id line before after told o steps no_hand among = by (line_course number line before after told steps j) where
-  by : Course j line before after told → (r : Record) × (r.id ≡ id) × (held_in (node_at before (j + 1)).lane.body.intake.phase ≡ Some r) × IsLast r (node_at after (j + 1)).lane.body.kept
+line_keeps_last number j id request before after told o steps no_hand among = by (line_course number request before after told steps j) where
+  by : Course j request before after told → (r : Record) × (r.id ≡ id) × (held_in (node_at before (j + 1)).lane.body.intake.phase ≡ Some r) × IsLast r (node_at after (j + 1)).lane.body.kept
   by (is_still same nothing) = elim (subst (λ (x : List Act). IsAmong id (settles_acts x [])) nothing among) [ ]
   by (has_stepped a) =
       let d : Done = plain_step a.desk (unread_by (j + 1) before.world) a.event (node_at before (j + 1)).lane.body in
@@ -305,22 +313,22 @@ line_keeps_last number j id line before after told o steps no_hand among = by (l
 
 -- ---- along a run
 
-run_arrives : (gap : ℕ) (last off : Option Record) (o : ℕ → Offering) (s : LineState) (asked : List TrackLine) (points : List Point) (n : ℕ) → Stood s → IsRun s asked points → AreStood (take n points) → AllOffered s o → GoneIsOffered last off → KeepsWhatLeft gap last s (take n points)
+run_arrives : (gap : ℕ) (last off : Option Record) (o : ℕ → Offering) (past : List Happening) (s : LineState) (asked : List TrackLine) (points : List Point) (n : ℕ) → StoodBy past s → IsRun s asked points → AreStoodBy past (take n points) → AreNewcomers past (take n asked) (take n points) → AllOffered s o → GoneIsOffered last off → KeepsWhatLeft gap last s (take n points)
     → KeepsAsOffered gap off (o gap) s (take n points)
-run_arrives gap last off o s asked points zero was run stood all gone left = tt
-run_arrives gap last off o s [] [] (suc n) was run stood all gone left = tt
-run_arrives gap last off o s [] (point ∷ points) (suc n) was run stood all gone left = absurd run
-run_arrives gap last off o s (line ∷ asked) [] (suc n) was run stood all gone left = absurd run
-run_arrives gap last off o s (line ∷ asked) (point ∷ points) (suc n) was run stood all gone left =
+run_arrives gap last off o past s asked points zero was run stood new all gone left = tt
+run_arrives gap last off o past s [] [] (suc n) was run stood new all gone left = tt
+run_arrives gap last off o past s [] (point ∷ points) (suc n) was run stood new all gone left = absurd run
+run_arrives gap last off o past s (line ∷ asked) [] (suc n) was run stood new all gone left = absurd run
+run_arrives gap last off o past s (line ∷ asked) (point ∷ points) (suc n) was run stood new all gone left =
     let now : ℕ → Offering = λ (m : ℕ). offers_told m point.told (o m) in (
       λ earlier later id is. line_arrives gap (s.lines + 1) id line last off o s point earlier later all run.0 gone (left.0 earlier later id is) is,
-      run_arrives gap (let_go gap last s point.told) (offered_gone gap off (o gap) point.told) now point.after asked points n stood.0 run.1 stood.1
-          (line_offers (s.lines + 1) line s point.after point.told o was stood.0 run.0 all)
+      run_arrives gap (let_go gap last s point.told) (offered_gone gap off (o gap) point.told) now (past ++ point.told) point.after asked points n stood.0 run.1 stood.1 new.1
+          (line_offers (s.lines + 1) line s point.after point.told o was.stood stood.0.stood (track_news (s.lines + 1) past line s point.after point.told was new.0 run.0) run.0 all)
           (line_gone gap last off (o gap) s point.told (list_any (is_leaving gap) point.told) refl (all gap) gone) left.1,
     )
 
 -- THE LAW
 pub what_settles_was_offered : SaysAlone → ConnectsBear → WhatSettlesWasOffered
 what_settles_was_offered alone connects asked points n gap fit few run honest =
-    run_arrives gap None None (λ (m : ℕ). none_offered) no_line asked points n none_stood run (run_stood alone connects no_line asked points n fit few none_stood run honest) none_all_offered
+    run_arrives gap None None (λ (m : ℕ). none_offered) [] no_line asked points n none_stood run (run_by alone connects [] no_line asked points n fit few none_stood run honest.told honest.newcomers) honest.newcomers none_all_offered
     (λ b found. absurd (let no : ◌≡◌ {A = Option Record} None (Some b) = found in cc)) (what_settles_left alone connects asked points n gap fit few run honest)

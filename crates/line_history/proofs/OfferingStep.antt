@@ -23,7 +23,7 @@ use Rattle.node_core.specs.Sides.{session_at}
 use Rattle.node_core.specs.Halves.{behind_opening, opening_board, outlet_did}
 use Rattle.node_core.specs.Reads.{all_read}
 use Rattle.node_core.specs.Bridge.{tells_level}
-use Rattle.node_core.specs.Event.{Event, Level, Insert, Remove, Replace, Mark, Sub, event_did}
+use Rattle.node_core.specs.Event.{Event, Level, Insert, Remove, Replace, Mark, Sub, Gives, Gets, event_did}
 use Rattle.node_core.proofs.HalfRows.{IsNoStart, IsPlain}
 use Rattle.line_history.proofs.Offering.{
   Holds,
@@ -55,6 +55,8 @@ use Rattle.step_rules.specs.Causes.{
   Tells,
   ToIntake,
   ToOutlet,
+  hand_gets,
+  hand_gives,
   hand_inserts,
   hand_removes,
   hand_replaces,
@@ -101,6 +103,8 @@ IsNoHand (Remove id) = ⊥
 IsNoHand (Replace old new) = ⊥
 IsNoHand (Mark id quality) = ⊥
 IsNoHand (Sub id sub) = ⊥
+IsNoHand (Gives id to) = ⊥
+IsNoHand (Gets board) = ⊥
 IsNoHand _ = Unit {0}
 
 -- a level of a bridge's segment is set
@@ -148,6 +152,8 @@ no_hand : {desk : Desk} {event : Event} {body : Body} {kept : List Record} {act 
 no_hand hand_inserts calm = calm
 no_hand (hand_removes is) calm = calm
 no_hand (hand_replaces is) calm = calm
+no_hand (hand_gives is) calm = calm
+no_hand hand_gets calm = calm
 no_hand (hand_changes (changes_quality is)) calm = calm
 no_hand (hand_changes (changes_circuits is)) calm = calm
 no_hand (hand_changes (changes_front front is)) calm = calm

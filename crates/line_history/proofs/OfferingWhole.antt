@@ -29,7 +29,7 @@ use Rattle.node_core.specs.Boards.{if_kept, is_kept, with_instead, with_kept, wi
 use Rattle.node_core.specs.Bridge.{failed_front, fails, sets_level, tells_level}
 use Rattle.node_core.specs.Desk.{Desk}
 use Rattle.node_core.specs.Done.{Done, and_then, stays}
-use Rattle.node_core.specs.Event.{Event, Level, Insert, Remove, Replace, Mark, Sub, event_did}
+use Rattle.node_core.specs.Event.{Event, Level, Insert, Remove, Replace, Mark, Sub, Gives, Gets, event_did}
 use Rattle.node_core.specs.Halves.{given_back, intake_row_did, outlet_row_did}
 use Rattle.node_core.specs.Reads.{all_read, reads, saw}
 use Rattle.node_core.specs.Step.{plain_step}
@@ -239,6 +239,11 @@ removes_hand : (body : Body) (id : ℕ) (o : Offering) (test : Bool) → IsAsOf 
 removes_hand body id o false h = stays_so h
 removes_hand body id o true h = elim (without_offers id h) [ inl so ↦ stays_so so | inr lost ↦ is_lost id lost.0 lost.1 lost.1 (told_first takes_out) ]
 
+-- a board goes to another lane, which isn't offered
+gives_hand : (body : Body) (id to : ℕ) (o : Offering) (test : Bool) → (body.outlet.offered ≡ Some id → ⊥) → IsAsOf body o → ByHand o body (if_kept test (with_kept (without id body.kept) body) (acts.Gives id to) body)
+gives_hand body id to o false plain h = stays_so h
+gives_hand body id to o true plain h = elim (without_offers id h) [ inl so ↦ stays_so so | inr lost ↦ absurd (plain lost.1) ]
+
 replaces_hand : (body : Body) (old new : ℕ) (with : Record) (o : Offering) (test : Bool) → IsAsOf body o → ByHand o body (if_kept test (with_kept (with_instead old with body.kept) body) (acts.Replaces old new) body)
 replaces_hand body old new with o false h = stays_so h
 replaces_hand body old new with o true h = elim (instead_offers old with h) [ inl so ↦ stays_so so | inr lost ↦ is_lost old lost.0 lost.1 lost.1 (told_first takes_instead) ]
@@ -247,11 +252,12 @@ changes_hand : (body : Body) (id : ℕ) (change : Record → Record) (act : Act)
 changes_hand body id change act o false silent plain h = stays_so h
 changes_hand body id change act o true silent plain h = stays_so (subst (λ (now : Offering). AsOffered body.outlet.phase body.outlet.offered body.outlet.touched (with_changed id change body.kept) now) (sym silent) (changed_offers id change plain h))
 
--- a board that is offered isn't marked, and gets no circuit
-abbrev pub IsMarkable : Event → Option ℕ → Type 0
-IsMarkable (Mark id quality) touched = touched ≡ Some id → ⊥
-IsMarkable (Sub id sub) touched = touched ≡ Some id → ⊥
-IsMarkable _ touched = Unit {0}
+-- a board that is offered isn't marked, gets no circuit, and goes to no other lane
+abbrev pub IsMarkable : Event → OutState → Type 0
+IsMarkable (Mark id quality) s = s.touched ≡ Some id → ⊥
+IsMarkable (Sub id sub) s = s.touched ≡ Some id → ⊥
+IsMarkable (Gives id to) s = s.offered ≡ Some id → ⊥
+IsMarkable _ s = Unit {0}
 
 by_walk : (body : Body) (o : Offering) (d : Done) → Walks body d → IsAsOf body o → ByHand o body d
 by_walk body o d w h = stays_so (w.each (held_in body.intake.phase) [] o (record { offers = h; settles = not_yet (λ r is. is) })).offers
@@ -274,12 +280,14 @@ sets_hand desk line on body o h =
     let one : Body = (tells_level line on body).body in
     stays_so (fails_so (failed_front desk.bridge line on one) one o (marked_untouched desk.bridge line on one) (level_so line on body o h))
 
-event_hand : (desk : Desk) (event : Event) (body : Body) (o : Offering) → IsMarkable event body.outlet.touched → IsAsOf body o → ByHand o body (event_did desk event body)
+event_hand : (desk : Desk) (event : Event) (body : Body) (o : Offering) → IsMarkable event body.outlet → IsAsOf body o → ByHand o body (event_did desk event body)
 event_hand desk (Insert id barcode) body o plain h = stays_so (settled_offers (Some (plain_record id desk.name barcode)) h)
 event_hand desk (Remove id) body o plain h = removes_hand body id o (is_kept id body.kept) h
 event_hand desk (Replace old new) body o plain h = replaces_hand body old new (plain_record new desk.name None) o (is_kept old body.kept) h
 event_hand desk (Mark id quality) body o plain h = changes_hand body id (λ r. record r { quality = quality }) (acts.Marks id quality) o (is_kept id body.kept) refl plain h
 event_hand desk (Sub id sub) body o plain h = changes_hand body id (λ r. record r { subs = r.subs ++ sub ∷ [] }) (acts.Subs id sub.pos) o (takes_sub id sub body.kept) refl plain h
+event_hand desk (Gives id to) body o plain h = gives_hand body id to o (is_kept id body.kept) plain h
+event_hand desk (Gets board) body o plain h = stays_so (settled_offers (Some board) h)
 event_hand desk (Level line on) body o plain h = sets_hand desk line on body o h
 event_hand desk event body o plain h = by_walk body o _ (event_walks desk event body tt) h
 
@@ -305,9 +313,10 @@ read_offered : (desk : Desk) (unread : List Seen) (body : Body) → (all_read de
 read_offered desk [] body = refl
 read_offered desk (s ∷ ss) body = read_offered desk ss (reads desk s body).body ∙ saw_offered desk s.side s.event body
 
-markable_read : (desk : Desk) (unread : List Seen) (event : Event) (body : Body) (c : Scene) → IsMarkable event body.outlet.touched → IsMarkable event (all_read desk unread body).body.outlet.touched
+markable_read : (desk : Desk) (unread : List Seen) (event : Event) (body : Body) (c : Scene) → IsMarkable event body.outlet → IsMarkable event (all_read desk unread body).body.outlet
 markable_read desk unread (Mark id quality) body c plain = read_untouched desk unread body c id plain
 markable_read desk unread (Sub id sub) body c plain = read_untouched desk unread body c id plain
+markable_read desk unread (Gives id to) body c plain = λ is. plain (sym (read_offered desk unread body) ∙ is)
 markable_read desk unread _ body c plain = tt
 
 -- ---- THE STEP: what is offered
@@ -317,7 +326,7 @@ pub data StepOffers (o : Offering) (body : Body) (d : Done) : Type 0 where
   offers_so : AsOffered d.body.outlet.phase d.body.outlet.offered d.body.outlet.touched d.body.kept (offers_acts d.acts o) → StepOffers o body d
   offers_lost : (x : ℕ) → body.outlet.offered ≡ Some x → HasAct (TakesOut x) d.acts → Kept x d.body.kept → StepOffers o body d
 
-pub step_offers : (desk : Desk) (unread : List Seen) (event : Event) (body : Body) (c : Scene) (o : Offering) → IsMarkable event body.outlet.touched → AsOffered body.outlet.phase body.outlet.offered body.outlet.touched body.kept o → StepOffers o body (plain_step desk unread event body)
+pub step_offers : (desk : Desk) (unread : List Seen) (event : Event) (body : Body) (c : Scene) (o : Offering) → IsMarkable event body.outlet → AsOffered body.outlet.phase body.outlet.offered body.outlet.touched body.kept o → StepOffers o body (plain_step desk unread event body)
 step_offers desk unread event body c o plain h =
     let read : Done = all_read desk unread body in
     let met : Done = event_did desk event read.body in
@@ -360,6 +369,8 @@ quiet_event desk (Remove id) body none = hand_rests (is_kept id body.kept) (with
 quiet_event desk (Replace old new) body none = hand_rests (is_kept old body.kept) (with_kept (with_instead old (plain_record new desk.name None) body.kept) body) body (acts.Replaces old new) refl none
 quiet_event desk (Mark id quality) body none = hand_rests (is_kept id body.kept) (with_kept (with_mark id quality body.kept) body) body (acts.Marks id quality) refl none
 quiet_event desk (Sub id sub) body none = hand_rests (takes_sub id sub body.kept) (with_kept (with_sub id sub body.kept) body) body (acts.Subs id sub.pos) refl none
+quiet_event desk (Gives id to) body none = hand_rests (is_kept id body.kept) (with_kept (without id body.kept) body) body (acts.Gives id to) refl none
+quiet_event desk (Gets board) body none = absurd (let no : true ≡ false = none in cc)
 quiet_event desk (Level line on) body none = sets_rest desk line on body none
 quiet_event desk event body none = event_walks desk event body tt
 

@@ -416,4 +416,4 @@ none_asks (suc place) said fit flows on = absurd (false≢true on)
 -- THE LAW
 pub what_opens_started : SaysAlone → ConnectsBear → WhatOpensStarted
 what_opens_started alone connects asked points n gap fit few run honest =
-    run_opened alone gap [] no_line asked points n fit few none_stood run (run_stood alone connects no_line asked points n fit few none_stood run honest) (none_asks gap)
+    run_opened alone gap [] no_line asked points n fit few none_stood.stood run (run_stood alone connects no_line asked points n fit few none_stood run honest) (none_asks gap)

@@ -159,5 +159,5 @@ none_knows h (suc place) = record { named = λ r is. absurd (let no_way : ◌≡
 pub boards_settle_when_said : SaysAlone → ConnectsBear → BoardsSettleWhenSaid
 boards_settle_when_said alone connects asked points n gap fit few run honest earlier later id is =
     let all : AreStood (take n points) = run_stood alone connects no_line asked points n fit few none_stood run honest in
-    let orderly = run_told alone gap none_heard no_line asked points n none_stood run all (none_knows none_heard (gap + 1)) in
+    let orderly = run_told alone gap none_heard no_line asked points n none_stood.stood run all (none_knows none_heard (gap + 1)) in
     is_said_of earlier id (said_then orderly earlier later id is).0

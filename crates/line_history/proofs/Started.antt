@@ -20,7 +20,7 @@ use Rattle.line_step.specs.State.{LineState, no_line}
 use Rattle.line_step.specs.Steps.{unread_by}
 use Rattle.one_standing.specs.Carried.{Trace}
 use Rattle.one_standing.proofs.Carrying.{SaysAlone}
-use Rattle.one_standing.proofs.LedgerWalk.{Announces, Did, Hand, IsNewFor, Walk, are_silent, did, hand_inserts, hand_removes, hand_replaces, hand_walks, is_silent, says_last, says_more, says_start, step_did, walk_drops, walk_end, walk_leaves, walk_loses, walk_on, walk_opens, walk_returns, walk_settles}
+use Rattle.one_standing.proofs.LedgerWalk.{Announces, Did, Hand, IsNewFor, Walk, are_silent, did, hand_gets, hand_gives, hand_inserts, hand_removes, hand_replaces, hand_walks, is_silent, says_last, says_more, says_start, step_did, walk_drops, walk_end, walk_leaves, walk_loses, walk_on, walk_opens, walk_returns, walk_settles}
 use Rattle.one_standing.proofs.LineForms.{ConnectsBear}
 use Rattle.one_standing.proofs.LineRun.{AreStood, Stood, none_stood, run_stood}
 use Rattle.line_history.specs.Settled.{entry_acts, is_at_entry, is_start, starts}
@@ -78,6 +78,8 @@ pub hand_open : {New : ℕ → Type 0} {own end : Own} {told : List Act} → Han
 hand_open (hand_walks walk) = walk_open walk
 hand_open (hand_inserts new) = refl
 hand_open (hand_removes has) = refl
+hand_open (hand_gives has) = refl
+hand_open hand_gets = refl
 hand_open (hand_replaces has new) = refl
 
 announces_open : {own end : Own} {told : List Act} → Announces own told end → open_all own.taking told ≡ end.taking
@@ -179,4 +181,4 @@ none_taking (suc place) = refl
 -- THE LAW
 pub what_is_held_started : SaysAlone → ConnectsBear → WhatIsHeldStarted
 what_is_held_started alone connects asked points n gap fit few run honest =
-    run_started alone gap [] no_line asked points n none_stood run (run_stood alone connects no_line asked points n fit few none_stood run honest) (none_taking (gap + 1))
+    run_started alone gap [] no_line asked points n none_stood.stood run (run_stood alone connects no_line asked points n fit few none_stood run honest) (none_taking (gap + 1))

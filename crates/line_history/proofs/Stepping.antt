@@ -29,7 +29,7 @@ use Rattle.node_core.specs.Connect.{opens, shuts_down, ticks}
 use Rattle.node_core.specs.Desk.{Desk}
 use Rattle.node_core.specs.Done.{Done, and_then, done}
 use Rattle.node_core.specs.Supervising.{Supervision, Supervise, Ask, Answer, supervises}
-use Rattle.node_core.specs.Event.{Accepted, Connect, Event, Fault, Forecast, Insert, Level, Mark, Sub, Nothing, Notice, Query, Remove, Replace, Second, Shutdown, Supervised, Tick, Will, Words, event_did}
+use Rattle.node_core.specs.Event.{Accepted, Connect, Event, Fault, Forecast, Gets, Gives, Insert, Level, Mark, Sub, Nothing, Notice, Query, Remove, Replace, Second, Shutdown, Supervised, Tick, Will, Words, event_did}
 use Rattle.node_core.specs.Halves.{OffersFront, intake_row_did}
 use Rattle.node_core.specs.Information.{asks_for, forecasts}
 use Rattle.node_core.specs.Reads.{all_read}
@@ -146,6 +146,8 @@ event_meets desk (Remove id) body c theirs offers g k makes = hand_meets (is_kep
 event_meets desk (Replace old new) body c theirs offers g k makes = hand_meets (is_kept old body.kept) body _ (acts.Replaces old new) (tells_aside body _ k refl refl) refl k
 event_meets desk (Mark id quality) body c theirs offers g k makes = hand_meets (is_kept id body.kept) body _ (acts.Marks id quality) (tells_aside body _ k refl refl) refl k
 event_meets desk (Sub id sub) body c theirs offers g k makes = hand_meets (takes_sub id sub body.kept) body _ (acts.Subs id sub.pos) (tells_aside body _ k refl refl) refl k
+event_meets desk (Gives id to) body c theirs offers g k makes = hand_meets (is_kept id body.kept) body _ (acts.Gives id to) (tells_aside body _ k refl refl) refl k
+event_meets desk (Gets board) body c theirs offers g k makes = record { tells = tells_aside body (event_did desk (Gets board) body) k refl refl; stays = refl }
 event_meets desk Forecast body c theirs offers g k makes = met_work (forecasts_work desk (slice_get body.kept 0) body k)
 event_meets desk (Query barcode) body c theirs offers g k makes = met_work (works_aside body (asks_for desk barcode body) k refl refl refl)
 event_meets desk (Supervised what) body c theirs offers g k makes = met_work (supervised_work desk what body k)

@@ -197,6 +197,8 @@ met_list : (act : Act) (c : Scene) → is_inner act ≡ true → (met act c).boa
 met_list (acts.Inserts id) c is = absurd (let no_way : false ≡ true = is in cc)
 met_list (acts.Removes id) c is = absurd (let no_way : false ≡ true = is in cc)
 met_list (acts.Replaces old new) c is = absurd (let no_way : false ≡ true = is in cc)
+met_list (acts.Gives id to) c is = absurd (let no_way : false ≡ true = is in cc)
+met_list (acts.Gets id) c is = absurd (let no_way : false ≡ true = is in cc)
 met_list (acts.Hears Entry message) c is = refl
 met_list (acts.Sends Entry message) c is = refl
 met_list (acts.Closes Entry) c is = refl

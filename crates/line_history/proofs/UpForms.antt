@@ -18,7 +18,6 @@ use Rattle.line_link.specs.Link.{LinkParts, after_connect, after_flow, after_spo
 use Rattle.line_link.specs.declared.link.Connected.{Connected}
 use Rattle.line_link.specs.declared.link.Connected.TheVariants as connections
 use Rattle.line_link.proofs.Coming.{coming_of_nul}
-use Rattle.line_script.specs.declared.line.ScriptLine.{ScriptLine}
 use Rattle.smema_bridge.specs.Levels.{BridgeLevels}
 use Rattle.line_report.specs.declared.happening.Happening.{Happening}
 use Rattle.node_core.specs.Desk.{Desk}
@@ -63,7 +62,7 @@ use Rattle.line_step.proofs.Keeps.{more_at}
 use Rattle.line_step.proofs.Numbers.{machine_within, same_or_not}
 use Rattle.one_standing.specs.Carried.{Carries, IsFitMachine, Trace, carries_over, carries_spoiled, carries_whole}
 use Rattle.one_standing.specs.Links.{AreWholeLinks}
-use Rattle.one_standing.specs.Standing.{IsFitLine, IsFitTrack}
+use Rattle.one_standing.specs.Standing.{IsFitRequest, IsFitTrack}
 use Rattle.one_standing.specs.Stands.{Stands}
 use Rattle.one_standing.specs.Waits.{AreWaiting}
 use Rattle.one_standing.proofs.Behind.{fit_machine}
@@ -86,9 +85,9 @@ use Rattle.line_history.proofs.LinkUp.{Up, UpOn, acts_up, are_silent, is_silent,
 use Rattle.line_history.proofs.Orders.{Orders, exit_words, is_plain, orders_end, orders_hears, orders_on, orders_opens, orders_refuses, orders_starts, step_orders}
 use Rattle.line_history.proofs.View.{done_append, done_by, flow_carried, other_acts, own_acts, remarks_none, standings_none, told_of_act, undriven, undriven_signals, undriven_step}
 use Rattle.line_step.proofs.Remarks.{unvouched_remarks}
-use Rattle.line_step.proofs.Requests.{Request, request_of}
+use Rattle.line_step.specs.Requests.{Request}
 use Rattle.line_step.proofs.Effects.{Effect, added_remarks, becomes_by, line_effect, spoil_remarks}
-use Rattle.one_standing.proofs.FitRequests.{IsFitRequest, fit_request, given_plain}
+use Rattle.one_standing.proofs.GivenPlain.{given_plain}
 use Rattle.line_step.proofs.Effects as effects
 
 -- ---- what is told of acts
@@ -602,9 +601,9 @@ spoil_up k m Entry t before what st waits can is =
 
 effect_next : SaysAlone → (k number : ℕ) (request : Request) (t : Trace) (before next : LineState) (told : List Happening) → number ≤ 1000000 → IsFitRequest request → Stands t before → AreWaiting before → Effect number before next told request → UpNext k t before next told
 effect_next alone k number request t before next told few fit st waits (effects.rests _ what remarks b) = becomes_by (UpNext k t before) b (still_next k t before before what st (remarks_none k what remarks) refl refl)
-effect_next alone k number request t before next told few fit st waits (effects.adds is_bridge capacity used may b) =
+effect_next alone k number request t before next told few fit st waits (effects.adds lane is_bridge capacity used may b) =
     becomes_by (UpNext k t before) b
-    (still_next k t before (one_more is_bridge capacity used before) _ st (remarks_none k _ (added_remarks is_bridge capacity before)) (more_same (λ (n : NodeState). n.lane.exit_bytes) is_bridge capacity used before refl k) (more_at is_bridge capacity used before k))
+    (still_next k t before (one_more lane is_bridge capacity used before) _ st (remarks_none k _ (added_remarks is_bridge capacity before)) (more_same (λ (n : NodeState). n.lane.exit_bytes) lane is_bridge capacity used before refl k) (more_at lane is_bridge capacity used before k))
 effect_next alone k number request t before next told few fit st waits (effects.steps m input given may did) = plain_next alone k number m input t before next told (given_plain input given) fit few st did
 effect_next alone k number request t before next told few fit st waits (effects.connects m may did) = connect_next alone k number m t before next told (same_or_not k (m - 1)) few st did
 effect_next alone k number request t before next told few fit st waits (effects.flows m side count may did) = flow_next alone k number m side count t before next told may few st did
@@ -626,11 +625,11 @@ effect_next alone k number request t before next told few fit st waits (effects.
 more_told : (k : ℕ) (a b : List Happening) → done_by k b ≡ [] → done_by k (a ++ b) ≡ done_by k a
 more_told k a b none = done_append k a b ∙ ap (λ (l : List Act). done_by k a ++ l) none ∙ append-nil (done_by k a)
 
-pub line_next : SaysAlone → (k number : ℕ) (line : ScriptLine) (t : Trace) (before after : LineState) (told : List Happening) → number ≤ 1000000 → IsFitLine line → Stands t before → AreWaiting before → LineSteps number line before after told → UpNext k t before after told
-line_next alone k number line t before after told few fit st waits steps =
+pub line_next : SaysAlone → (k number : ℕ) (request : Request) (t : Trace) (before after : LineState) (told : List Happening) → number ≤ 1000000 → IsFitRequest request → Stands t before → AreWaiting before → LineSteps number request before after told → UpNext k t before after told
+line_next alone k number request t before after told few fit st waits steps =
     let next : LineState = steps.next in
     let now : LineState = record next { lines = steps.lines } in
-    let one : UpNext k t before next steps.done = effect_next alone k number (request_of line) t before next steps.done few (fit_request line fit) st waits (line_effect number line before next steps.done steps.does) in
+    let one : UpNext k t before next steps.done = effect_next alone k number request t before next steps.done few fit st waits (line_effect number request before next steps.done steps.does) in
     let above : done_by k told ≡ done_by k steps.done = ap (done_by k) steps.told_is ∙ more_told k steps.done (standings_told before next) (standings_none k before next) in
     let below : done_by (k + 1) told ≡ done_by (k + 1) steps.done = ap (done_by (k + 1)) steps.told_is ∙ more_told (k + 1) steps.done (standings_told before next) (standings_none (k + 1) before next) in
     let any : Starting k steps.done ≡ Starting k told = ap (λ (l : List Act). list_any is_start l ≡ true) (sym below) in
@@ -650,6 +649,6 @@ line_next alone k number line t before after told few fit st waits steps =
 
 -- EACH LINE OF A TRACK
 pub track_next : SaysAlone → (k number : ℕ) (line : TrackLine) (t : Trace) (before after : LineState) (told : List Happening) → number ≤ 1000000 → IsFitTrack line → Stands t before → AreWaiting before → TrackSteps number line before after told → UpNext k t before after told
-track_next alone k number (own_line line) t before after told few fit st waits steps = line_next alone k number line t before after told few fit st waits steps
+track_next alone k number (own_line request) t before after told few fit st waits steps = line_next alone k number request t before after told few fit st waits steps.0
 track_next alone k number other_line t before after told few fit st waits steps =
     still_next k t before after told st (ap (done_by k) steps.1) (ap (λ (l : Lane). l.exit_bytes) (beside-lane before after k steps.0)) (ap (link_at k) steps.0.world)

@@ -2,14 +2,11 @@
 -- the line, of which the report tells all acts but the switching of drives.
 use Rattle.std.proofs.Common.{Bool, Err, List, Ok, Option, Result, [], ap, append-nil, append_assoc, arith, false, inl, inr, length, ne_eqb, refl, suc, subst, sym, true, zero, ℕ, ◌&&◌, ◌++◌, ◌+◌, ◌-◌, ◌==◌, ◌∙◌, ◌∷◌, ◌≡◌, ◌≢◌, ◌≤◌, ◌⊎◌}
 use Rattle.std.specs.Prelude.{if◌then◌else◌, slice_index_or}
-use Rattle.std.specs.List.{AllByRecursion}
 use Rattle.std.proofs.lemmas.Bool.{ltb-true, and_from}
 use Rattle.std.proofs.lemmas.Bool.Decides.{eqb_tells}
 use Rattle.line_step.proofs.Beside.{beside-lane}
 use Rattle.line_step.proofs.Once.{IsDry}
 use Rattle.one_standing.proofs.RestLine.{node_there}
-use Rattle.line_step.proofs.OnFloor.{made-join}
-use Rattle.one_standing.proofs.HandSteps.{all_first, all_second}
 use Rattle.one_standing.proofs.MirroringEnds.{before_one}
 use Rattle.custody.proofs.Rows.{same as same_number}
 use Rattle.line_base.specs.declared.states.Side.{Side}
@@ -25,7 +22,6 @@ use Rattle.line_link.specs.Link.{after_connect, after_flow, answer_sent, connect
 use Rattle.smema_bridge.specs.Levels.{BridgeLevels}
 use Rattle.line_link.specs.declared.link.Connected.{Connected}
 use Rattle.line_link.specs.declared.link.Connected.TheVariants as connections
-use Rattle.line_script.specs.declared.line.ScriptLine.{ScriptLine}
 use Rattle.line_world.specs.FloorPlan.{FloorPlan, gap_at, machine_at}
 use Rattle.node_core.specs.Desk.{Desk}
 use Rattle.node_core.specs.Done.{Done}
@@ -50,7 +46,7 @@ use Rattle.node_core.proofs.Telling.{tells_pass}
 use Rattle.line_report.specs.declared.happening.Happening.{Happening}
 use Rattle.line_report.specs.declared.happening.Happening.TheVariants as happenings
 use Rattle.line_step.specs.Acts.{act_did, acts_did, cut_told, is_answer, is_exit, sent_by}
-use Rattle.line_step.specs.FloorIds.{made_by}
+use Rattle.one_standing.proofs.ApartStep.{IsNot, come_by, come_in}
 use Rattle.line_step.specs.Tracks.{IsBeside, TrackLine, TrackSteps, other_line, own_line}
 use Rattle.line_step.specs.Lines.{Becomes, Connects, Flows, LineSteps, arrived, connecting, met, spoiled}
 use Rattle.line_step.specs.Numbered.{Stand, no_node, node_at, stand_at}
@@ -73,8 +69,9 @@ use Rattle.one_standing.proofs.MirroringFlow.{CanFlow, can_flow, link_there, arr
 use Rattle.line_history.proofs.Floor.{acts_lies, acts_lists, make_not, makes_not, none_unread, read_lies, read_lists}
 use Rattle.line_history.proofs.Stepping.{AreTheirs}
 use Rattle.line_step.proofs.Remarks.{AreRemarks, IsNoAct, IsRemark, Passes, acts_pass, all_pass, cut_remarks, no_acts, standings_remarks}
-use Rattle.line_step.proofs.Requests.{IsGiven, Request, added_told, may_get, request_of}
-use Rattle.line_step.proofs.Requests as requests
+use Rattle.line_step.specs.Requests.{Request, added_told, may_get}
+use Rattle.line_step.proofs.Giving.{IsGiven}
+use Rattle.line_step.specs.Requests as requests
 use Rattle.line_step.proofs.Effects.{added_remarks, becomes_by}
 use Rattle.line_step.proofs.Turns.{LineTurns, line_turns}
 use Rattle.line_step.proofs.Turns as turns
@@ -311,12 +308,12 @@ given_turn K number j machine input before after told request are (inr apart) as
 
 -- ---- each form of line
 
-pub more_body : (is_bridge : Bool) (capacity used : ℕ) (s : LineState) (k : ℕ) → (k ≡ length s.machines + 1) ⊎ (k ≢ length s.machines + 1) → unwilled (node_at (one_more is_bridge capacity used s) k).lane.body ≡ unwilled (node_at s k).lane.body
-more_body is_bridge capacity used s k (inr apart) = ap (λ (x : Stand). unwilled x.node.lane.body) ((more_changes is_bridge capacity used s).machines k apart)
-more_body is_bridge capacity used s k (inl is) =
+pub more_body : (lane : ℕ) (is_bridge : Bool) (capacity used : ℕ) (s : LineState) (k : ℕ) → (k ≡ length s.machines + 1) ⊎ (k ≢ length s.machines + 1) → unwilled (node_at (one_more lane is_bridge capacity used s) k).lane.body ≡ unwilled (node_at s k).lane.body
+more_body lane is_bridge capacity used s k (inr apart) = ap (λ (x : Stand). unwilled x.node.lane.body) ((more_changes lane is_bridge capacity used s).machines k apart)
+more_body lane is_bridge capacity used s k (inl is) =
     let next : k ≡ suc (length s.machines) = omega (arith, is) in
-    subst (λ (m : ℕ). unwilled (node_at (one_more is_bridge capacity used s) m).lane.body ≡ unwilled (node_at s m).lane.body) (sym next)
-    (ap (λ (n : NodeState). unwilled n.lane.body) (last_node s.machines (new_node (profile_of is_bridge (length s.machines + 1) capacity used))) ∙ sym (ap (λ (n : NodeState). unwilled n.lane.body) (no_last s.machines))) where
+    subst (λ (m : ℕ). unwilled (node_at (one_more lane is_bridge capacity used s) m).lane.body ≡ unwilled (node_at s m).lane.body) (sym next)
+    (ap (λ (n : NodeState). unwilled n.lane.body) (last_node s.machines (new_node (profile_of lane is_bridge (length s.machines + 1) capacity used))) ∙ sym (ap (λ (n : NodeState). unwilled n.lane.body) (no_last s.machines))) where
       last_node : (nodes : List NodeState) (new : NodeState) → slice_index_or (nodes ++ new ∷ []) (length nodes) no_node ≡ new
       last_node [] new = refl
       last_node (node ∷ nodes) new = last_node nodes new
@@ -329,9 +326,9 @@ quiet_turn : (K : Event → Type 0) (j : ℕ) (before next after : LineState) (w
 quiet_turn K j before next after what told same none b = is_still (ap (λ (s : LineState). unwilled (node_at s (j + 1)).lane.body) b.after_is ∙ same) (ap (done_by (j + 1)) b.told_is ∙ none)
 
 -- a machine is added, or a bridge
-more_turn : (K : Event → Type 0) (j : ℕ) (is_bridge : Bool) (capacity used : ℕ) (before after : LineState) (what told : List Happening) → done_by (j + 1) what ≡ [] → Becomes (one_more is_bridge capacity used before) what after told → TurnBy K j before after told
-more_turn K j is_bridge capacity used before after what told none b =
-    quiet_turn K j before (one_more is_bridge capacity used before) after what told (more_body is_bridge capacity used before (j + 1) (same_or_not (j + 1) (length before.machines + 1))) none b
+more_turn : (K : Event → Type 0) (j : ℕ) (lane : ℕ) (is_bridge : Bool) (capacity used : ℕ) (before after : LineState) (what told : List Happening) → done_by (j + 1) what ≡ [] → Becomes (one_more lane is_bridge capacity used before) what after told → TurnBy K j before after told
+more_turn K j lane is_bridge capacity used before after what told none b =
+    quiet_turn K j before (one_more lane is_bridge capacity used before) after what told (more_body lane is_bridge capacity used before (j + 1) (same_or_not (j + 1) (length before.machines + 1))) none b
 
 pub same_machines : (j : ℕ) (s next : LineState) → next.machines ≡ s.machines → (node_at next (j + 1)).lane.body ≡ (node_at s (j + 1)).lane.body
 same_machines j s next is = ap (λ (n : NodeState). n.lane.body) (same_nodes (j + 1) s next is) where
@@ -417,8 +414,8 @@ connects_turn K number j machine before after told join steps =
 
 turns_turn : (K : Event → Type 0) (number : ℕ) (request : Request) (before after : LineState) (told : List Happening) (j : ℕ) → EventsAre K number j before after told request → LineTurns number before after told request → TurnBy K j before after told
 turns_turn K number request before after told j are (turns.stays _ same none) = is_still (ap unwilled (same_machines j before after same)) (all_pass told (no_acts_none (j + 1)) none)
-turns_turn K number request before after told j are (turns.adds is_bridge capacity used may b) =
-    more_turn K j is_bridge capacity used before after (added_told is_bridge capacity before) told (remarks_none (j + 1) _ (added_remarks is_bridge capacity before)) b
+turns_turn K number request before after told j are (turns.adds lane is_bridge capacity used may b) =
+    more_turn K j lane is_bridge capacity used before after (added_told is_bridge capacity before) told (remarks_none (j + 1) _ (added_remarks is_bridge capacity before)) b
 turns_turn K number request before after told j are (turns.steps machine input given may did) = given_turn K number j machine input before after told request are (same_or_not (j + 1) machine) refl given may did
 turns_turn K number request before after told j are (turns.connects machine may did) = connects_turn K number j machine before after told are.joining did
 turns_turn K number request before after told j are (turns.flows machine side count may did) = flow_turn K number j machine side count before after told request are may (same_or_not (j + 1) machine) did
@@ -445,26 +442,33 @@ are_theirs alone t number j before after told request st = record {
 abbrev pub AllStill : LineState → LineState → List Happening → Type 0
 AllStill before after told = (j : ℕ) → (unwilled (node_at after (j + 1)).lane.body ≡ unwilled (node_at before (j + 1)).lane.body) × (done_by (j + 1) told ≡ [])
 
--- what lies in the gaps stays, and no board comes to a list whose id isn't made in the line
+-- what lies in the gaps stays, and no board comes to a list but one that is put in or comes from another lane
 pub record Stays (before after : LineState) (told : List Happening) : Type 0 where
   pub lies : (gap : ℕ) → (gap_at after.world.floor gap).lies ≡ (gap_at before.world.floor gap).lies
-  pub lists : (x machine : ℕ) → AllByRecursion (λ (id : ℕ). id ≢ x) (made_by told) → Lies x (machine_at after.world.floor machine).boards → Lies x (machine_at before.world.floor machine).boards
+  pub lists : (x machine : ℕ) → IsNot x (come_by told) → Lies x (machine_at after.world.floor machine).boards → Lies x (machine_at before.world.floor machine).boards
 
-made_both : (x : ℕ) (a b : List Happening) → AllByRecursion (λ (id : ℕ). id ≢ x) (made_by (a ++ b)) → AllByRecursion (λ (id : ℕ). id ≢ x) (made_by a) × AllByRecursion (λ (id : ℕ). id ≢ x) (made_by b)
-made_both x a b all =
-    let joined : AllByRecursion (λ (id : ℕ). id ≢ x) (made_by a ++ made_by b) = subst (λ (ids : List ℕ). AllByRecursion (λ (id : ℕ). id ≢ x) ids) (made-join a b) all in
-    (all_first (λ (id : ℕ). id ≢ x) (made_by a) (made_by b) joined, all_second (λ (id : ℕ). id ≢ x) (made_by a) (made_by b) joined)
+not_both : (x : ℕ) (a b : List ℕ) → IsNot x (a ++ b) → IsNot x a × IsNot x b
+not_both x [] b all = (tt, all)
+not_both x (id ∷ a) b all = (let both = not_both x a b all.1 in ((all.0, both.0), both.1))
 
-act_makes : (x : ℕ) (second : Bool) (machine : ℕ) (act : Act) (world : WorldParts) → AllByRecursion (λ (id : ℕ). id ≢ x) (made_by (act_did second machine act world).told) → makes_not x act ≡ true
-act_makes x second machine (acts.Inserts id) world all = rw (ne_eqb id x all.0) refl
-act_makes x second machine (acts.Replaces old new) world all = rw (ne_eqb new x all.0) refl
+come_join : (a b : List Happening) → come_by (a ++ b) ≡ come_by a ++ come_by b
+come_join [] b = refl
+come_join (h ∷ a) b = ap (λ (ids : List ℕ). come_in h ++ ids) (come_join a b) ∙ sym (append_assoc (come_in h) (come_by a) (come_by b))
+
+come_both : (x : ℕ) (a b : List Happening) → IsNot x (come_by (a ++ b)) → IsNot x (come_by a) × IsNot x (come_by b)
+come_both x a b all = not_both x (come_by a) (come_by b) (subst (λ (ids : List ℕ). IsNot x ids) (come_join a b) all)
+
+act_makes : (x : ℕ) (second : Bool) (machine : ℕ) (act : Act) (world : WorldParts) → IsNot x (come_by (act_did second machine act world).told) → makes_not x act ≡ true
+act_makes x second machine (acts.Inserts id) world all = rw (ne_eqb id x (λ is. all.0 (sym is))) refl
+act_makes x second machine (acts.Replaces old new) world all = rw (ne_eqb new x (λ is. all.0 (sym is))) refl
+act_makes x second machine (acts.Gets id) world all = rw (ne_eqb id x (λ is. all.0 (sym is))) refl
 act_makes x second machine _ world all = refl
 
-acts_make : (x : ℕ) (second : Bool) (machine : ℕ) (told : List Act) (world : WorldParts) → AllByRecursion (λ (id : ℕ). id ≢ x) (made_by (acts_did second machine told world).told) → make_not x told ≡ true
+acts_make : (x : ℕ) (second : Bool) (machine : ℕ) (told : List Act) (world : WorldParts) → IsNot x (come_by (acts_did second machine told world).told) → make_not x told ≡ true
 acts_make x second machine [] world all = refl
 acts_make x second machine (act ∷ told) world all =
     let one = act_did second machine act world in
-    let both = made_both x one.told (acts_did second machine told one.world).told all in
+    let both = come_both x one.told (acts_did second machine told one.world).told all in
     and_from (makes_not x act) (make_not x told) (act_makes x second machine act world both.0) (acts_make x second machine told one.world both.1)
 
 step_stays : (number machine : ℕ) (input : Input) (before after : LineState) (told : List Happening) → MachineSteps number machine input before after told → Stays before after told
@@ -475,7 +479,7 @@ step_stays number machine input before after told steps =
       lies = λ gap. ap (λ (s : LineState). (gap_at s.world.floor gap).lies) steps.after_is ∙ acts_lies second machine steps.acts read gap ∙ read_lies machine before.world gap;
       lists = λ x other new lies.
           read_lists x machine before.world other
-          (acts_lists x second machine steps.acts read other (acts_make x second machine steps.acts read (subst (λ (t : List Happening). AllByRecursion (λ (id : ℕ). id ≢ x) (made_by t)) steps.told_is new))
+          (acts_lists x second machine steps.acts read other (acts_make x second machine steps.acts read (subst (λ (t : List Happening). IsNot x (come_by t)) steps.told_is new))
           (subst (λ (s : LineState). Lies x (machine_at s.world.floor other).boards) steps.after_is lies));
     }
 
@@ -489,7 +493,7 @@ from_start before start after told same s = record {
 stays_both : (before between after : LineState) (a b : List Happening) → Stays before between a → Stays between after b → Stays before after (a ++ b)
 stays_both before between after a b one two = record {
   lies = λ gap. two.lies gap ∙ one.lies gap;
-  lists = λ x machine new lies. (let both = made_both x a b new in one.lists x machine both.0 (two.lists x machine both.1 lies));
+  lists = λ x machine new lies. (let both = come_both x a b new in one.lists x machine both.0 (two.lists x machine both.1 lies));
 }
 
 abbrev pub Kind : LineState → LineState → List Happening → Type 0
@@ -510,33 +514,33 @@ flows_kind number machine side count before after told flows =
 
 turns_kind : (number : ℕ) (request : Request) (before after : LineState) (told : List Happening) → LineTurns number before after told request → Kind before after told
 turns_kind number request before after told (turns.stays _ same none) = inl (λ j. (ap unwilled (same_machines j before after same), all_pass told (no_acts_none (j + 1)) none))
-turns_kind number request before after told (turns.adds is_bridge capacity used may b) =
+turns_kind number request before after told (turns.adds lane is_bridge capacity used may b) =
     becomes_by (λ s ts. Kind before s ts) b
-    (inl (λ j. (more_body is_bridge capacity used before (j + 1) (same_or_not (j + 1) (length before.machines + 1)), remarks_none (j + 1) _ (added_remarks is_bridge capacity before))))
+    (inl (λ j. (more_body lane is_bridge capacity used before (j + 1) (same_or_not (j + 1) (length before.machines + 1)), remarks_none (j + 1) _ (added_remarks is_bridge capacity before))))
 turns_kind number request before after told (turns.steps machine input given may did) = inr (step_stays number machine input before after told did)
 turns_kind number request before after told (turns.connects machine may did) = connects_kind number machine before after told did
 turns_kind number request before after told (turns.flows machine side count may did) = flows_kind number machine side count before after told did
 
 counted_kind : (before next : LineState) (done more : List Happening) (n : ℕ) → ((j : ℕ) → done_by (j + 1) more ≡ []) → Kind before next done → Kind before (record next { lines = n }) (done ++ more)
 counted_kind before next done more n none (inl all) = inl (λ j. (ap unwilled (same_machines j next (record next { lines = n }) refl) ∙ (all j).0, none_join (j + 1) done more (all j).1 (none j)))
-counted_kind before next done more n none (inr s) = inr (record { lies = s.lies; lists = λ x machine new lies. s.lists x machine (made_both x done more new).0 lies })
+counted_kind before next done more n none (inr s) = inr (record { lies = s.lies; lists = λ x machine new lies. s.lists x machine (come_both x done more new).0 lies })
 
-pub line_kind : (number : ℕ) (line : ScriptLine) (before after : LineState) (told : List Happening) → LineSteps number line before after told → Kind before after told
-line_kind number line before after told steps =
+pub line_kind : (number : ℕ) (request : Request) (before after : LineState) (told : List Happening) → LineSteps number request before after told → Kind before after told
+line_kind number request before after told steps =
     let next : LineState = steps.next in
     subst (λ (s : LineState). Kind before s told) (sym steps.after_is) (subst (λ (x : List Happening). Kind before (record next { lines = steps.lines }) x) (sym steps.told_is)
-    (counted_kind before next steps.done (standings_told before next) (steps.lines) (λ j. standings_none (j + 1) before next) (turns_kind number (request_of line) before next steps.done (line_turns number line before next steps.done steps.does))))
+    (counted_kind before next steps.done (standings_told before next) (steps.lines) (λ j. standings_none (j + 1) before next) (turns_kind number request before next steps.done (line_turns number request before next steps.done steps.does))))
 
 counted_turn : {K : Event → Type 0} {j : ℕ} {before next : LineState} {done told : List Happening} (n : ℕ) → done_by (j + 1) told ≡ done_by (j + 1) done → (node_at (record next { lines = n }) (j + 1)).lane.body ≡ (node_at next (j + 1)).lane.body → TurnBy K j before next done → TurnBy K j before (record next { lines = n }) told
 counted_turn n acts body (is_still same none) = is_still (ap unwilled body ∙ same) (acts ∙ none)
 counted_turn n acts body (has_stepped s) = has_stepped (record { desk = s.desk; event = s.event; known = s.known; body = body ∙ s.body; acts = acts ∙ s.acts; unread = s.unread })
 
 -- EACH LINE, for each machine
-pub each_turn : (K : Event → Type 0) (number : ℕ) (line : ScriptLine) (before after : LineState) (told : List Happening) (j : ℕ) → (steps : LineSteps number line before after told) → EventsAre K number j before steps.next steps.done (request_of line) → TurnBy K j before after told
-each_turn K number line before after told j steps are =
+pub each_turn : (K : Event → Type 0) (number : ℕ) (request : Request) (before after : LineState) (told : List Happening) (j : ℕ) → (steps : LineSteps number request before after told) → EventsAre K number j before steps.next steps.done request → TurnBy K j before after told
+each_turn K number request before after told j steps are =
     let next : LineState = steps.next in
     let done : List Happening = steps.done in
-    let turn : TurnBy K j before next done = turns_turn K number (request_of line) before next done j are (line_turns number line before next done steps.does) in
+    let turn : TurnBy K j before next done = turns_turn K number request before next done j are (line_turns number request before next done steps.does) in
     let acts : done_by (j + 1) told ≡ done_by (j + 1) done =
     ap (done_by (j + 1)) steps.told_is ∙ done_append (j + 1) done (standings_told before next) ∙ ap (λ (x : List Act). done_by (j + 1) done ++ x) (standings_none (j + 1) before next) ∙ append-nil (done_by (j + 1) done) in
     subst (λ (s : LineState). TurnBy K j before s told) (sym steps.after_is) (counted_turn (steps.lines) acts (same_machines j next (record next { lines = steps.lines }) refl) turn)
@@ -545,15 +549,15 @@ each_turn K number line before after told j steps are =
 pub beside_turn : (K : Event → Type 0) (before after : LineState) (told : List Happening) (j : ℕ) → IsBeside before after → told ≡ [] → TurnBy K j before after told
 beside_turn K before after told j beside none = is_still (ap (λ (l : Lane). unwilled l.body) (beside-lane before after (j + 1) beside)) (ap (done_by (j + 1)) none)
 
-pub line_turn : SaysAlone → (t : Trace) (number : ℕ) (line : ScriptLine) (before after : LineState) (told : List Happening) → Stands t before → LineSteps number line before after told → (j : ℕ) → Turn j t before after told
-line_turn alone t number line before after told st steps j =
-    each_turn (λ (event : Event). AreTheirs event (scene_at t before j)) number line before after told j steps (are_theirs alone t number j before steps.next steps.done (request_of line) st)
+pub line_turn : SaysAlone → (t : Trace) (number : ℕ) (request : Request) (before after : LineState) (told : List Happening) → Stands t before → LineSteps number request before after told → (j : ℕ) → Turn j t before after told
+line_turn alone t number request before after told st steps j =
+    each_turn (λ (event : Event). AreTheirs event (scene_at t before j)) number request before after told j steps (are_theirs alone t number j before steps.next steps.done request st)
 
 pub track_kind : (number : ℕ) (line : TrackLine) (before after : LineState) (told : List Happening) → TrackSteps number line before after told → Kind before after told
-track_kind number (own_line line) before after told steps = line_kind number line before after told steps
+track_kind number (own_line request) before after told steps = line_kind number request before after told steps.0
 track_kind number other_line before after told steps = inl (λ j. (ap (λ (l : Lane). unwilled l.body) (beside-lane before after (j + 1) steps.0), ap (done_by (j + 1)) steps.1))
 
 -- EACH LINE OF A TRACK
 pub track_turn : SaysAlone → (t : Trace) (number : ℕ) (line : TrackLine) (before after : LineState) (told : List Happening) → Stands t before → TrackSteps number line before after told → (j : ℕ) → Turn j t before after told
-track_turn alone t number (own_line line) before after told st steps j = line_turn alone t number line before after told st steps j
+track_turn alone t number (own_line request) before after told st steps j = line_turn alone t number request before after told st steps.0 j
 track_turn alone t number other_line before after told st steps j = beside_turn (λ (event : Event). AreTheirs event (scene_at t before j)) before after told j steps.0 steps.1

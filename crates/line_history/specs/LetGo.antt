@@ -14,7 +14,7 @@ use Rattle.handover_out.specs.State.{board_of_phase as held_out}
 use Rattle.handover_in.specs.State.{board_of_phase as held_in}
 use Rattle.line_report.specs.declared.happening.Happening.{Happening}
 use Rattle.line_report.specs.declared.happening.Happening.TheVariants as happenings
-use Rattle.line_step.specs.Lies.{has_lie}
+use Rattle.line_step.specs.Homes.{IsHonest}
 use Rattle.line_step.specs.Numbered.{node_at}
 use Rattle.line_step.specs.Tracks.{TrackLine}
 use Rattle.line_step.specs.Runs.{IsRun, Point, IsShort}
@@ -64,5 +64,5 @@ KeepsWhatLeft gap last s (point ∷ points) =
 abbrev pub WhatSettlesLeft : Type 0
 WhatSettlesLeft =
     (asked : List TrackLine) (points : List Point) (n gap : ℕ) → AllByRecursion IsFitTrack asked
-    → IsShort no_line points → IsRun no_line asked points → has_lie (take n points) ≡ false
+    → IsShort no_line points → IsRun no_line asked points → IsHonest asked points n
     → KeepsWhatLeft gap None no_line (take n points)

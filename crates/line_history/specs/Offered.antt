@@ -16,7 +16,7 @@ use Rattle.node_core.specs.declared.act.Act.TheVariants as acts
 use Rattle.node_core.specs.declared.act.Deed.TheVariants as deeds
 use Rattle.line_report.specs.declared.happening.Happening.{Happening}
 use Rattle.line_report.specs.declared.happening.Happening.TheVariants as happenings
-use Rattle.line_step.specs.Lies.{has_lie}
+use Rattle.line_step.specs.Homes.{IsHonest}
 use Rattle.line_step.specs.Numbered.{node_at}
 use Rattle.line_step.specs.Tracks.{TrackLine}
 use Rattle.line_step.specs.Runs.{IsRun, Point, IsShort}
@@ -63,14 +63,16 @@ offered_gone gap last o told =
 
 -- ---- what is done by hand
 
--- a board is put in, taken out, replaced, marked or given a circuit more; a level of a bridge's
--- segment marks one too
+-- a board is put in, taken out, replaced, marked or given a circuit more; it goes to another lane
+-- of the machine, or comes from one; a level of a bridge's segment marks one too
 abbrev pub is_hand : Act → Bool
 is_hand (acts.Inserts id) = true
 is_hand (acts.Removes id) = true
 is_hand (acts.Replaces was now) = true
 is_hand (acts.Marks id quality) = true
 is_hand (acts.Subs id place) = true
+is_hand (acts.Gives id to) = true
+is_hand (acts.Gets id) = true
 is_hand _ = false
 
 abbrev pub is_hand_at : ℕ → Happening → Bool
@@ -120,5 +122,5 @@ abbrev pub WhatSettlesWasOffered : Type 0
 WhatSettlesWasOffered =
     (asked : List TrackLine) (points : List Point) (n gap : ℕ)
     → AllByRecursion IsFitTrack asked → IsShort no_line points → IsRun no_line asked points
-    → has_lie (take n points) ≡ false
+    → IsHonest asked points n
     → KeepsAsOffered gap None none_offered no_line (take n points)

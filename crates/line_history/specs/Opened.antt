@@ -9,7 +9,7 @@ use Rattle.node_core.specs.declared.act.Deed.{Deed}
 use Rattle.node_core.specs.declared.act.Deed.TheVariants as deeds
 use Rattle.line_report.specs.declared.happening.Happening.{Happening}
 use Rattle.line_report.specs.declared.happening.Happening.TheVariants as happenings
-use Rattle.line_step.specs.Lies.{has_lie}
+use Rattle.line_step.specs.Homes.{IsHonest}
 use Rattle.line_step.specs.Tracks.{TrackLine}
 use Rattle.line_step.specs.Runs.{IsRun, Point, IsShort}
 use Rattle.line_step.specs.State.{LineState, no_line}
@@ -100,4 +100,4 @@ OpensWhatStarted gap past s (point ∷ points) =
 abbrev pub WhatOpensStarted : Type 0
 WhatOpensStarted = (asked : List TrackLine) (points : List Point) (n gap : ℕ)
     → AllByRecursion IsFitTrack asked → IsShort no_line points → IsRun no_line asked points
-    → has_lie (take n points) ≡ false → OpensWhatStarted gap [] no_line (take n points)
+    → IsHonest asked points n → OpensWhatStarted gap [] no_line (take n points)

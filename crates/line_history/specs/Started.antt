@@ -11,7 +11,7 @@ use Rattle.node_core.specs.declared.act.Act.{Act}
 use Rattle.node_core.specs.declared.act.Act.TheVariants as acts
 use Rattle.node_core.specs.declared.act.Deed.TheVariants as deeds
 use Rattle.line_report.specs.declared.happening.Happening.{Happening}
-use Rattle.line_step.specs.Lies.{has_lie}
+use Rattle.line_step.specs.Homes.{IsHonest}
 use Rattle.line_step.specs.Tracks.{TrackLine}
 use Rattle.line_step.specs.Runs.{IsRun, Point, IsShort}
 use Rattle.line_step.specs.State.{no_line}
@@ -47,5 +47,5 @@ HoldsWhatStarted gap past (point ∷ points) =
 abbrev pub WhatIsHeldStarted : Type 0
 WhatIsHeldStarted =
     (asked : List TrackLine) (points : List Point) (n gap : ℕ) → AllByRecursion IsFitTrack asked
-    → IsShort no_line points → IsRun no_line asked points → has_lie (take n points) ≡ false
+    → IsShort no_line points → IsRun no_line asked points → IsHonest asked points n
     → HoldsWhatStarted gap [] (take n points)

@@ -8,7 +8,8 @@ ghost use Rattle.line_history.specs.Started.{WhatIsHeldStarted};
 
 /// A board settles only after the end of its transport was heard, in the connection of its
 /// handover, or the upstream machine's description of itself in a later one: over every script up
-/// to the first line that told what was not so, or let a board come or go unseen.
+/// to the first line that told what was not so, let a board come or go unseen, or let one come from
+/// another lane to where it is at home already.
 pub fn boards_settle_when_it_is_said()
     ensures { BoardsSettleWhenSaid }
 {

@@ -4,7 +4,6 @@ use Rattle.std.specs.Prelude.{slice_get}
 use Rattle.line_base.specs.declared.states.Side.{Side}
 use Rattle.board_record.specs.Maker.{Maker, next_id}
 use Rattle.smema_bridge.specs.Levels.{BridgeLevels}
-use Rattle.line_script.specs.declared.line.ScriptLine.{ScriptLine}
 use Rattle.line_link.specs.Link.{connected_of}
 use Rattle.line_link.specs.declared.link.Connected.{Connected}
 use Rattle.line_link.specs.declared.link.Connected.TheVariants as connections
@@ -42,7 +41,7 @@ use Rattle.line_openings.proofs.WrongWords.{good_event}
 use Rattle.line_openings.proofs.Telling.{step_tells}
 use Rattle.line_openings.proofs.Steps.{acts_offered, acts_ready, acts_told, no_acts_none, other_acts, remarks_none}
 use Rattle.line_step.proofs.Remarks.{all_pass, standings_remarks}
-use Rattle.line_step.proofs.Requests.{Request, added_told, request_of}
+use Rattle.line_step.specs.Requests.{Request, added_told}
 use Rattle.line_step.proofs.Effects.{added_remarks, becomes_by}
 use Rattle.line_step.proofs.Turns.{LineTurns, line_turns}
 use Rattle.line_step.proofs.Getting.{get_may}
@@ -144,14 +143,16 @@ step_goes number k machine input o r before after told (inl same) steps fits h =
     subst (λ (m : ℕ). Goes m o r after told) (sym same) (own_goes number machine input o r before after told steps fits (holds_there o r (machine_in machine before) steps.node steps.there (subst (λ (m : ℕ). Holds o r (machine_in m before)) same h)))
 step_goes number k machine input o r before after told (inr apart) steps fits h = other_goes number k machine input o r before after told steps apart h
 
--- ---- one step, where its input puts in no board
+-- ---- one step, where its input brings no board
 
 abbrev IsNoInsert : Input → Type 0
 IsNoInsert (inputs.Insert barcode) = ⊥
+IsNoInsert (inputs.Gets board) = ⊥
 IsNoInsert _ = Unit {0}
 
 plain_fits : (most : ℕ) (maker : Maker) (input : Input) (words : List Word) (body : Body) → IsNoInsert input → HasPlaceFor most (event_of maker input words) body
 plain_fits most maker (inputs.Insert barcode) words body none = absurd none
+plain_fits most maker (inputs.Gets board) words body none = absurd none
 plain_fits most maker (inputs.Replace id) words body none = other_fits most (next_id maker) id body
 plain_fits most maker _ words body none = tt
 
@@ -170,21 +171,21 @@ added_at [] node (suc place) = added_none refl
 added_at (n ∷ nodes) node zero = added_none refl
 added_at (n ∷ nodes) node (suc place) = added_at nodes node place
 
-added : (k : ℕ) (is_bridge : Bool) (capacity used : ℕ) (s : LineState) → Added (machine_in k s) (machine_in k (one_more is_bridge capacity used s)) (new_node (profile_of is_bridge (length s.machines + 1) capacity used))
-added zero is_bridge capacity used s = added_none refl
-added (suc place) is_bridge capacity used s = added_at s.machines (new_node (profile_of is_bridge (length s.machines + 1) capacity used)) place
+added : (k : ℕ) (lane : ℕ) (is_bridge : Bool) (capacity used : ℕ) (s : LineState) → Added (machine_in k s) (machine_in k (one_more lane is_bridge capacity used s)) (new_node (profile_of lane is_bridge (length s.machines + 1) capacity used))
+added zero lane is_bridge capacity used s = added_none refl
+added (suc place) lane is_bridge capacity used s = added_at s.machines (new_node (profile_of lane is_bridge (length s.machines + 1) capacity used)) place
 
-new_has : (number : ℕ) (is_bridge : Bool) (capacity used : ℕ) → Has None false (new_node (profile_of is_bridge number capacity used))
-new_has number is_bridge capacity used = record { offered = refl; ready = refl; sound = first_sound capacity is_bridge; linked = record { idle = refl; stands = refl } }
+new_has : (number : ℕ) (lane : ℕ) (is_bridge : Bool) (capacity used : ℕ) → Has None false (new_node (profile_of lane is_bridge number capacity used))
+new_has number lane is_bridge capacity used = record { offered = refl; ready = refl; sound = first_sound capacity is_bridge; linked = record { idle = refl; stands = refl } }
 
 holds_more : (o : Option ℕ) (r : Bool) (old new : Option NodeState) (node : NodeState) → Has None false node → Added old new node → Holds o r old → Holds o r new
 holds_more o r old new node has (added_none same) h = subst (λ (n : Option NodeState). Holds o r n) (sym same) h
 holds_more o r old new node has (added_here none here) not_there = subst (λ (n : Option NodeState). Holds None false n) (sym here) (is_there has)
 holds_more o r old new node has (added_here none here) (is_there other) = cc
 
-more_holds : (k : ℕ) (is_bridge : Bool) (capacity used : ℕ) (o : Option ℕ) (r : Bool) (s : LineState) → Holds o r (machine_in k s) → Holds o r (machine_in k (one_more is_bridge capacity used s))
-more_holds k is_bridge capacity used o r s h =
-    holds_more o r (machine_in k s) (machine_in k (one_more is_bridge capacity used s)) (new_node (profile_of is_bridge (length s.machines + 1) capacity used)) (new_has (length s.machines + 1) is_bridge capacity used) (added k is_bridge capacity used s) h
+more_holds : (k : ℕ) (lane : ℕ) (is_bridge : Bool) (capacity used : ℕ) (o : Option ℕ) (r : Bool) (s : LineState) → Holds o r (machine_in k s) → Holds o r (machine_in k (one_more lane is_bridge capacity used s))
+more_holds k lane is_bridge capacity used o r s h =
+    holds_more o r (machine_in k s) (machine_in k (one_more lane is_bridge capacity used s)) (new_node (profile_of lane is_bridge (length s.machines + 1) capacity used)) (new_has (length s.machines + 1) lane is_bridge capacity used) (added k lane is_bridge capacity used s) h
 
 -- ---- each turn
 
@@ -211,13 +212,13 @@ flows_goes number k machine side count o r before after told h flows =
 
 turn_goes : (number k : ℕ) (request : Request) (o : Option ℕ) (r : Bool) (before after : LineState) (told : List Happening) → Holds o r (machine_in k before) → LineTurns number before after told request → Goes k o r after told
 turn_goes number k request o r before after told h (turns.stays _ same none) = still k o r before after told (all_pass told (no_acts_none k) none) (same_in k before after same) h
-turn_goes number k request o r before after told h (turns.adds is_bridge capacity used may b) =
-    let now : LineState = one_more is_bridge capacity used before in
+turn_goes number k request o r before after told h (turns.adds lane is_bridge capacity used may b) =
+    let now : LineState = one_more lane is_bridge capacity used before in
     let what : List Happening = added_told is_bridge capacity before in
     let none : exit_acts k what ≡ [] = remarks_none k what (added_remarks is_bridge capacity before) in
     becomes_by (Goes k o r) b (record {
       tells = told_apart k o r what none;
-      holds = subst (λ (a : List Act). Holds (offered_from o a) (ready_from r a) (machine_in k now)) (sym none) (more_holds k is_bridge capacity used o r before h);
+      holds = subst (λ (a : List Act). Holds (offered_from o a) (ready_from r a) (machine_in k now)) (sym none) (more_holds k lane is_bridge capacity used o r before h);
     })
 turn_goes number k request o r before after told h (turns.steps machine input given may did) =
     step_goes number k machine input o r before after told (same_or_not k machine) did (λ words. may_fits did.node input words (get_may machine input before did.node did.there may)) h
@@ -225,11 +226,11 @@ turn_goes number k request o r before after told h (turns.connects machine may d
 turn_goes number k request o r before after told h (turns.flows machine side count may did) = flows_goes number k machine side count o r before after told h did
 
 -- EACH LINE STEP
-steps_goes : (number k : ℕ) (line : ScriptLine) (o : Option ℕ) (r : Bool) (before after : LineState) (told : List Happening) → Holds o r (machine_in k before) → LineSteps number line before after told → Goes k o r after told
-steps_goes number k line o r before after told h steps =
+steps_goes : (number k : ℕ) (request : Request) (o : Option ℕ) (r : Bool) (before after : LineState) (told : List Happening) → Holds o r (machine_in k before) → LineSteps number request before after told → Goes k o r after told
+steps_goes number k request o r before after told h steps =
     let next = steps.next in
     let count : LineState = record next { lines = steps.lines } in
-    let one = turn_goes number k (request_of line) o r before next steps.done h (line_turns number line before next steps.done steps.does) in
+    let one = turn_goes number k request o r before next steps.done h (line_turns number request before next steps.done steps.does) in
     subst (λ (s : LineState). Goes k o r s told) (sym steps.after_is) (subst (λ (x : List Happening). Goes k o r count x) (sym steps.told_is)
     (goes_both k o r next count steps.done (standings_told before next) one (λ held. still k _ _ next count (standings_told before next) (remarks_none k (standings_told before next) (standings_remarks before next)) (same_in k next count refl) held)))
 
@@ -254,7 +255,7 @@ beside_holds o r zero before after is held = held
 beside_holds o r (suc place) before after is held = beside_hold o r before.machines after.machines place is.machines held
 
 track_goes : (number k : ℕ) (line : TrackLine) (o : Option ℕ) (r : Bool) (before after : LineState) (told : List Happening) → Holds o r (machine_in k before) → TrackSteps number line before after told → Goes k o r after told
-track_goes number k (own_line line) o r before after told h steps = steps_goes number k line o r before after told h steps
+track_goes number k (own_line request) o r before after told h steps = steps_goes number k request o r before after told h steps.0
 track_goes number k other_line o r before after told h steps =
     let none : exit_acts k told ≡ [] = ap (exit_acts k) steps.1 in
     record {

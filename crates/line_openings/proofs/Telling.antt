@@ -29,7 +29,7 @@ use Rattle.node_core.specs.Boards.{faults, if_kept, is_kept, wills, with_kept, t
 use Rattle.node_core.specs.Bridge.{failed_front, fails, tells_level}
 use Rattle.node_core.specs.Information.{asks_for, forecasts}
 use Rattle.node_core.specs.Announces.{announces, offer, offer_by, offers_now, readies_now, ready, ready_by, revoke, revoke_by, revokes_now, start, start_by, starts_now, unready, unready_by, unreadies_now}
-use Rattle.node_core.specs.Event.{Event, Nothing, Connect, Accepted, Second, Words, Notice, Tick, Shutdown, Fault, Will, Level, Insert, Remove, Replace, Mark, Sub, Forecast, Query, Supervised, event_did}
+use Rattle.node_core.specs.Event.{Event, Nothing, Connect, Accepted, Second, Words, Notice, Tick, Shutdown, Fault, Will, Level, Insert, Remove, Replace, Mark, Sub, Gives, Gets, Forecast, Query, Supervised, event_did}
 use Rattle.node_core.specs.Step.{machine_step, plain_step}
 use Rattle.node_core.specs.Supervising.{Supervision, Supervise, Ask, Answer, supervises, telling, watch_of}
 use Rattle.node_core.proofs.Sound.{read_exit, read_offers}
@@ -177,6 +177,8 @@ event_tells desk (Remove id) body good can = where_kept (is_kept id body.kept) b
 event_tells desk (Replace old new) body good can = where_kept (is_kept old body.kept) body _ (acts.Replaces old new) (record { plain = refl; offered = λ o. refl; ready = λ r. refl })
 event_tells desk (Mark id quality) body good can = where_kept (is_kept id body.kept) body _ (acts.Marks id quality) (record { plain = refl; offered = λ o. refl; ready = λ r. refl })
 event_tells desk (Sub id sub) body good can = where_kept (takes_sub id sub body.kept) body _ (acts.Subs id sub.pos) (record { plain = refl; offered = λ o. refl; ready = λ r. refl })
+event_tells desk (Gives id to) body good can = where_kept (is_kept id body.kept) body _ (acts.Gives id to) (record { plain = refl; offered = λ o. refl; ready = λ r. refl })
+event_tells desk (Gets board) body good can = by_hand body _ (acts.Gets board.id ∷ []) (record { plain = refl; offered = λ o. refl; ready = λ r. refl })
 event_tells desk Forecast body good can = forecasts_tell desk (slice_get body.kept 0) body
 event_tells desk (Query barcode) body good can = asks_tell desk barcode body
 event_tells desk (Supervised what) body good can = supervised_tell desk what body

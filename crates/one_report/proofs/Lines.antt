@@ -5,9 +5,13 @@ use Rattle.line_base.specs.declared.states.Side.{Side}
 use Rattle.line_link.specs.Link.{connected_of}
 use Rattle.line_report.specs.declared.happening.Happening.{Happening}
 use Rattle.line_script.specs.declared.line.ScriptLine.{ScriptLine}
-use Rattle.line_script.specs.declared.line.ScriptLine.TheVariants as lines
 use Rattle.line_world.specs.Moves.{floor_move}
+use Rattle.std.specs.Prelude.{is_some}
+use Rattle.handover_out.specs.State.{is_id}
+use Rattle.node_core.specs.Boards.{is_kept}
+use Rattle.node_core.specs.May as own
 use Rattle.node_core.specs.May.{may_of, may_reach}
+use Rattle.node_core.specs.declared.input.No.TheVariants as nos
 use Rattle.node_core.specs.Node.{NodeState}
 use Rattle.node_core.specs.declared.input.Input.{Input}
 use Rattle.node_core.specs.declared.input.Input.TheVariants as inputs
@@ -25,8 +29,8 @@ use Rattle.line_step.proofs.Connecting.{CanConnect, can_connect}
 use Rattle.line_step.proofs.Counting.{step_counts}
 use Rattle.line_step.proofs.Keeps.{lines_stay}
 use Rattle.line_step.proofs.Numbers.{machine_at_number, machine_within}
-use Rattle.line_step.proofs.Requests.{Request, RequestDoes, added_told, may_get, request_of}
-use Rattle.line_step.proofs.Requests as requests
+use Rattle.line_step.specs.Requests.{Request, added_told, may_get, request_of}
+use Rattle.line_step.specs.Requests as requests
 use Rattle.one_report.specs.Steps.{HasRun, HasScriptStep, HasStep}
 use Rattle.one_report.proofs.Machines.{has_machine_steps}
 
@@ -62,6 +66,14 @@ get_there machine (inputs.Notice side) s can =
     (no_if (link_stands machine side s.world) reasons.Standing (no_if (not (is_dry_at machine side s.world)) reasons.TextInFlight may_do)))) can
 get_there machine inputs.Nothing s can = there (machine_in machine s) (λ node. no_if (not (has_unread machine s.world)) reasons.NothingToRead may_do) can
 get_there machine (inputs.Answer query order) s can = there (machine_in machine s) (λ node. with_word node (may_of node (inputs.Answer query order))) can
+get_there machine inputs.Connect s can = absurd cc
+get_there machine inputs.Accepted s can = absurd cc
+get_there machine inputs.Second s can = absurd cc
+get_there machine (inputs.Bytes side piece) s can = absurd cc
+get_there machine (inputs.Gives id to) s can =
+    there (machine_in machine s) (λ node. no_if (is_some node.bridge) (reasons.Node nos.Bridge) (no_if (not (is_kept id node.lane.body.kept)) (reasons.Node nos.NotKept)
+    (no_if (not (is_here machine id s.world)) reasons.NotHere (no_if (is_id node.lane.body.last_offer id) (reasons.Node nos.WasOffered) may_do)))) can
+get_there machine (inputs.Gets board) s can = there (machine_in machine s) (λ node. behind_own (own.may_get node) may_do) can
 get_there machine input s can = there (machine_in machine s) (λ node. behind_own (may_of node input) may_do) can
 
 -- ---- what is done
@@ -106,12 +118,12 @@ connects_done number machine before may =
       does = record { between = first.after; earlier = first.told; later = second.told; first = first.steps; second = second.steps; told_is = refl };
     }
 
--- ---- each request, and so each line
+-- ---- each request
 
-request_done : (number : ℕ) (request : Request) (before : LineState) → HasDone (RequestDoes number request before)
+request_done : (number : ℕ) (request : Request) (before : LineState) → HasDone (LineDoes number request before)
 request_done number requests.nothing before = becomes before []
 request_done number requests.shows before = becomes before (shown before)
-request_done number (requests.adds is_bridge capacity used) before = unless before (may_add before) _ (λ can. becomes (one_more is_bridge capacity used before) (added_told is_bridge capacity before))
+request_done number (requests.adds lane is_bridge capacity used) before = unless before (may_add before) _ (λ can. becomes (one_more lane is_bridge capacity used before) (added_told is_bridge capacity before))
 request_done number (requests.gives machine input) before = unless before (may_get machine input before) _ (λ can. machine_done number machine input before (get_there machine input before can))
 request_done number (requests.connects machine) before = unless before (may_connect machine before) _ (λ can. connects_done number machine before can)
 request_done number (requests.flows machine side count) before = unless before (may_flow machine side before) _ (λ can. flows_done number machine side count before can)
@@ -125,38 +137,32 @@ request_done number (requests.lies machine sensed) before =
 request_done number (requests.unsees machine side) before =
     unless before (may_unseen machine side before) _ (λ can. becomes (unseen number machine side before) (happenings.Unseen machine side ∷ unvouched_told before.unvouched))
 
--- each form does what it asks for, and so the other way round
-requests_line : (number : ℕ) (line : ScriptLine) (before after : LineState) (told : List Happening) → RequestDoes number (request_of line) before after told → LineDoes number line before after told
-requests_line number lines.Blank before after told does = does
-requests_line number _ before after told does = does
-
 -- the count that a line leaves, or that it goes on to
 counts_behind : (ends : Bool) (lines : ℕ) → Counts lines (count_behind ends lines)
 counts_behind true lines = record { least = omega arith; most = omega arith }
 counts_behind false lines = record { least = omega arith; most = omega arith }
 
 -- EACH LINE of a run has a step, whether the count goes on with it
-record HasStepTo (number lines : ℕ) (line : ScriptLine) (before : LineState) : Type 0 where
+record HasStepTo (number lines : ℕ) (request : Request) (before : LineState) : Type 0 where
   after : LineState
   told : List Happening
-  steps : LineSteps number line before after told
+  steps : LineSteps number request before after told
   counted : after.lines ≡ lines
 
-line_to : (ends : Bool) (number : ℕ) (line : ScriptLine) (before : LineState) → HasStepTo number (count_behind ends before.lines) line before
-line_to ends number line before =
-    let done = request_done number (request_of line) before in
-    let does = requests_line number line before done.after done.told done.does in
+line_to : (ends : Bool) (number : ℕ) (request : Request) (before : LineState) → HasStepTo number (count_behind ends before.lines) request before
+line_to ends number request before =
+    let done = request_done number request before in
     let lines = count_behind ends done.after.lines in
     record {
       after = record done.after { lines = lines };
       told = done.told ++ standings_told before done.after;
-      steps = record { next = done.after; done = done.told; does = does; lines = lines; counts = counts_behind ends done.after.lines; after_is = refl; told_is = refl };
-      counted = ap (count_behind ends) (lines_stay number line before done.after done.told does);
+      steps = record { next = done.after; done = done.told; does = done.does; lines = lines; counts = counts_behind ends done.after.lines; after_is = refl; told_is = refl };
+      counted = ap (count_behind ends) (lines_stay number request before done.after done.told done.does);
     }
 
-pub each_line : (number : ℕ) (line : ScriptLine) (before : LineState) → HasStep number line before
-each_line number line before =
-    let one = line_to true number line before in
+pub each_line : (number : ℕ) (request : Request) (before : LineState) → HasStep number request before
+each_line number request before =
+    let one = line_to true number request before in
     record { after = one.after; told = one.told; steps = one.steps }
 
 -- ---- each line of a script
@@ -168,7 +174,7 @@ record HasPlay (before : LineState) (parts : List Part) : Type 0 where
 each_play : (before : LineState) (parts : List Part) → HasPlay before parts
 each_play before [] = record { points = []; play = tt }
 each_play before (part ∷ parts) =
-    let first = line_to part.ends (before.lines + 1) (part.line before) before in
+    let first = line_to part.ends (before.lines + 1) (request_of (part.line before)) before in
     let others = each_play first.after parts in
     record { points = record { told = first.told; after = first.after } ∷ others.points; play = (record { steps = first.steps; counted = first.counted }, others.play) }
 

@@ -2,16 +2,17 @@
 use Rattle.std.specs.Prelude.{ℕ, List}
 use Rattle.line_report.specs.declared.happening.Happening.{Happening}
 use Rattle.line_script.specs.declared.line.ScriptLine.{ScriptLine}
+use Rattle.line_step.specs.Requests.{Request}
 use Rattle.line_step.specs.Lines.{LineSteps}
 use Rattle.line_step.specs.Parts.{IsScriptRun, ScriptLineSteps}
 use Rattle.line_step.specs.Runs.{Point}
 use Rattle.line_step.specs.State.{LineState}
 
--- some step of a line of a run, from this state: the state after it, and what it told
-pub record HasStep (number : ℕ) (line : ScriptLine) (before : LineState) : Type 0 where
+-- some step of a request, from this state: the state after it, and what it told
+pub record HasStep (number : ℕ) (request : Request) (before : LineState) : Type 0 where
   pub after : LineState
   pub told : List Happening
-  pub steps : LineSteps number line before after told
+  pub steps : LineSteps number request before after told
 
 -- what some step of a line of a script did, which may be several lines of a run
 pub record HasScriptStep (line : ScriptLine) (before : LineState) : Type 0 where

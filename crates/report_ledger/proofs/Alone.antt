@@ -8,7 +8,7 @@ use Rattle.line_step.specs.Parts.{IsScriptRun, Part, PartSteps, where_may}
 use Rattle.line_step.specs.Reasons.{May, may_cut, may_notice}
 use Rattle.line_step.specs.Runs.{Point}
 use Rattle.line_step.specs.State.{LineState}
-use Rattle.line_step.proofs.Requests.{request_of}
+use Rattle.line_step.specs.Requests.{request_of}
 use Rattle.line_step.proofs.Vouching.{IsNoLie, steps-honest}
 use Rattle.report_ledger.proofs.Vouched.{AreAlone, IsAlone}
 
@@ -19,7 +19,7 @@ where_honest (Err _) line calm = tt
 -- a part that tells no lie, whether the count goes on with it
 honest_alone : (last : ℕ) (part : Part) (s : LineState) (point : Point) → s.lines ≤ point.after.lines → IsNoLie (request_of (part.line s)) → PartSteps part s point → IsAlone last s point
 honest_alone last part s point rises calm steps = record {
-  lying = λ is. absurd (false≢true (sym (steps-honest (s.lines + 1) (part.line s) s point.after point.told calm steps.steps) ∙ is));
+  lying = λ is. absurd (false≢true (sym (steps-honest (s.lines + 1) (request_of (part.line s)) s point.after point.told calm steps.steps) ∙ is));
   rises = rises;
 }
 

@@ -15,6 +15,7 @@ use Rattle.line_report.specs.declared.happening.Happening.{Happening}
 use Rattle.line_report.specs.declared.happening.Happening.TheVariants as happenings
 use Rattle.line_step.specs.Runs.{Point, told_text}
 use Rattle.line_step.specs.Parts.{lines_played, script_parts}
+use Rattle.line_step.proofs.Newcomers.{played-honest}
 use Rattle.line_step.proofs.Playing.{play-run, script-short}
 use Rattle.one_standing.proofs.Playing.{script_played_fit}
 use Rattle.report_ledger.proofs.Alone.{script_alone}
@@ -107,6 +108,7 @@ act_reads gap machine _ some small proper = refl
 
 happening_reads : (gap : ℕ) (happening : Happening) → 1 ≤ gap → IsProperHappening happening → told_at gap (happening_text happening) ≡ gap_deed gap happening
 happening_reads gap (happenings.Done machine act) some proper = act_reads gap machine act some proper.0 proper.1
+happening_reads gap (happenings.Lanes count) some proper = refl
 happening_reads gap (happenings.Machine number capacity) some proper = refl
 happening_reads gap (happenings.Bridge number capacity) some proper = refl
 happening_reads gap (happenings.Cut other) some proper = refl
@@ -214,5 +216,5 @@ report_tells_starts starts asked points ending gap some fit few run proper none 
     let vouches : Vouches 1 points (lines_in ending) = run_vouched 0 no_line points (lines_in ending) (script_alone 0 no_line asked points (omega arith) run) none in
     let lines : vouched (lines_in (told_text 1 points ++ ending)) ≡ run_lines 1 (honest points) ++ vouches.rest =
     ap vouched (run_read no_line points ending (script-short no_line asked points run (omega (arith, few))) proper) ∙ vouches.is in
-    let all : OpensWhatStarted gap [] no_line (honest points) = subst (λ (ps : List Point). OpensWhatStarted gap [] no_line ps) (sym front.is) (starts (lines_played no_line (script_parts asked) points) points front.count gap (script_played_fit no_line asked points fit) (script-short no_line asked points run (omega (arith, few))) (play-run no_line (script_parts asked) points run) front.honesty) in
+    let all : OpensWhatStarted gap [] no_line (honest points) = subst (λ (ps : List Point). OpensWhatStarted gap [] no_line ps) (sym front.is) (starts (lines_played no_line (script_parts asked) points) points front.count gap (script_played_fit no_line asked points fit) (script-short no_line asked points run (omega (arith, few))) (play-run no_line (script_parts asked) points run) (played-honest no_line (script_parts asked) points front.count front.honesty)) in
     subst (λ (l : List ReportLine). OpensWereAsked gap [] l) (sym lines) (run_asked gap 1 [] no_line (honest points) [] vouches.rest some (honest_proper points proper) vouches.none all refl)

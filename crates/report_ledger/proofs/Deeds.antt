@@ -29,6 +29,7 @@ use Rattle.line_step.specs.Lies.{is_lie}
 use Rattle.machine_log.specs.Account.{IsProperAct, id_of_deed}
 use Rattle.one_standing.specs.Replay.{deeds_at as deeds_of_act, deeds_at_side, deeds_in, deeds_of}
 use Rattle.running_logs.proofs.LineTexts.{cut_spaced, number_bytes, value_is}
+use Rattle.report_ledger.proofs.InLane.{StaysInLane}
 use Rattle.report_ledger.specs.Proper.{IsProperHappening}
 use Rattle.report_ledger.specs.ReportLines.{deed_at, deed_in, deed_of, deeds_told, replaced_by, tells_lie}
 use Rattle.report_ledger.proofs.Lines.{lines_told}
@@ -100,40 +101,43 @@ setting_reads machine (settings.Will side false) = refl
 setting_reads machine (settings.Level line on) = refl
 setting_reads machine (settings.Supervise on) = refl
 
-act_reads : (machine : ℕ) (act : Act) → machine < 2 ^ 32 → IsProperAct act → option_to_list (deed_of (act_text machine act)) ≡ deeds_of_act machine act
-act_reads machine (acts.Deed deed) small proper = deed_reads machine deed small proper
-act_reads machine (acts.Inserts id) small proper = hand_read kinds.Inserts deeds.Inserts machine id small proper refl
-act_reads machine (acts.Removes id) small proper = hand_read kinds.Removes deeds.Removes machine id small proper refl
-act_reads machine (acts.Replaces old new) small proper = replaces_read machine old new small proper.0 proper.1
-act_reads machine (acts.Tells message) small proper = told_reads machine message.body
-act_reads machine (acts.Sets setting) small proper = setting_reads machine setting
-act_reads machine _ small proper = refl
+act_reads : (machine : ℕ) (act : Act) → machine < 2 ^ 32 → IsProperAct act → StaysInLane (happenings.Done machine act) → option_to_list (deed_of (act_text machine act)) ≡ deeds_of_act machine act
+act_reads machine (acts.Gives id to) small proper lane = absurd lane
+act_reads machine (acts.Gets id) small proper lane = absurd lane
+act_reads machine (acts.Deed deed) small proper lane = deed_reads machine deed small proper
+act_reads machine (acts.Inserts id) small proper lane = hand_read kinds.Inserts deeds.Inserts machine id small proper refl
+act_reads machine (acts.Removes id) small proper lane = hand_read kinds.Removes deeds.Removes machine id small proper refl
+act_reads machine (acts.Replaces old new) small proper lane = replaces_read machine old new small proper.0 proper.1
+act_reads machine (acts.Tells message) small proper lane = told_reads machine message.body
+act_reads machine (acts.Sets setting) small proper lane = setting_reads machine setting
+act_reads machine _ small proper lane = refl
 
 -- ---- THE DEEDS
 
-happening_reads : (happening : Happening) → IsProperHappening happening → option_to_list (deed_of (happening_text happening)) ≡ deeds_in happening
-happening_reads (happenings.Done machine act) proper = act_reads machine act proper.0 proper.1
-happening_reads (happenings.Machine number capacity) proper = refl
-happening_reads (happenings.Bridge number capacity) proper = refl
-happening_reads (happenings.Cut gap) proper = refl
-happening_reads (happenings.Stop machine) proper = refl
-happening_reads (happenings.Spoils machine side) proper = refl
-happening_reads (happenings.Moved gap step) proper = refl
-happening_reads (happenings.Lie machine sensed) proper = refl
-happening_reads (happenings.Unseen machine side) proper = refl
-happening_reads happenings.Unvouched proper = refl
-happening_reads (happenings.No reason) proper = refl
-happening_reads (happenings.Shown machine id quality) proper = refl
-happening_reads (happenings.ShownBetween gap id) proper = refl
-happening_reads (happenings.With machine id) proper = refl
-happening_reads (happenings.Between gap id) proper = refl
-happening_reads (happenings.Gone id) proper = refl
+happening_reads : (happening : Happening) → IsProperHappening happening → StaysInLane happening → option_to_list (deed_of (happening_text happening)) ≡ deeds_in happening
+happening_reads (happenings.Done machine act) proper lane = act_reads machine act proper.0 proper.1 lane
+happening_reads (happenings.Lanes count) proper lane = refl
+happening_reads (happenings.Machine number capacity) proper lane = refl
+happening_reads (happenings.Bridge number capacity) proper lane = refl
+happening_reads (happenings.Cut gap) proper lane = refl
+happening_reads (happenings.Stop machine) proper lane = refl
+happening_reads (happenings.Spoils machine side) proper lane = refl
+happening_reads (happenings.Moved gap step) proper lane = refl
+happening_reads (happenings.Lie machine sensed) proper lane = refl
+happening_reads (happenings.Unseen machine side) proper lane = refl
+happening_reads happenings.Unvouched proper lane = refl
+happening_reads (happenings.No reason) proper lane = refl
+happening_reads (happenings.Shown machine id quality) proper lane = refl
+happening_reads (happenings.ShownBetween gap id) proper lane = refl
+happening_reads (happenings.With machine id) proper lane = refl
+happening_reads (happenings.Between gap id) proper lane = refl
+happening_reads (happenings.Gone id) proper lane = refl
 
-pub told_deeds : (number : ℕ) (told : List Happening) → AllByRecursion IsProperHappening told → deeds_told (lines_told number told) ≡ deeds_of told
-told_deeds number [] proper = refl
-told_deeds number (happening ∷ told) proper =
-    ap (λ (ds : List Deed). ds ++ deeds_told (lines_told number told)) (happening_reads happening proper.0)
-    ∙ ap (λ (ds : List Deed). deeds_in happening ++ ds) (told_deeds number told proper.1)
+pub told_deeds : (number : ℕ) (told : List Happening) → AllByRecursion IsProperHappening told → AllByRecursion StaysInLane told → deeds_told (lines_told number told) ≡ deeds_of told
+told_deeds number [] proper lane = refl
+told_deeds number (happening ∷ told) proper lane =
+    ap (λ (ds : List Deed). ds ++ deeds_told (lines_told number told)) (happening_reads happening proper.0 lane.0)
+    ∙ ap (λ (ds : List Deed). deeds_in happening ++ ds) (told_deeds number told proper.1 lane.1)
 
 -- ---- LIES
 
@@ -155,6 +159,7 @@ act_lies machine _ = refl
 
 pub happening_lies : (happening : Happening) → tells_lie (happening_text happening) ≡ is_lie happening
 happening_lies (happenings.Done machine act) = act_lies machine act
+happening_lies (happenings.Lanes count) = refl
 happening_lies (happenings.Machine number capacity) = refl
 happening_lies (happenings.Bridge number capacity) = refl
 happening_lies (happenings.Cut gap) = refl

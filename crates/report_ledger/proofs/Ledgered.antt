@@ -7,6 +7,7 @@ use Rattle.standings.specs.declared.deed.Deed.{Deed}
 use Rattle.line_step.specs.Lies.{has_lie, tells_lie}
 use Rattle.line_step.specs.Runs.{Point, state_behind, told_text}
 use Rattle.line_step.specs.Parts.{IsScriptRun, lines_played, script_parts}
+use Rattle.line_step.proofs.Newcomers.{played-honest}
 use Rattle.line_step.proofs.Playing.{play-run, script-short}
 use Rattle.one_standing.proofs.Playing.{script_played_fit}
 use Rattle.report_ledger.proofs.Alone.{script_alone}
@@ -19,6 +20,7 @@ use Rattle.one_standing.proofs.LedgerTurns.{after_append, legal_append}
 use Rattle.report_ledger.specs.Ledgers.{AreUnnumbered, ReportTellsLedger, honest}
 use Rattle.report_ledger.specs.Proper.{AreProperPoints, IsProperHappening}
 use Rattle.report_ledger.specs.ReportLines.{ReportLine, deeds_in_report, deeds_told, lines_in, vouched}
+use Rattle.report_ledger.proofs.InLane.{StayInLane, honest_in_lane, play_in_lane}
 use Rattle.report_ledger.proofs.Deeds.{told_deeds}
 use Rattle.report_ledger.proofs.Lines.{lines_told, run_lines, run_read}
 use Rattle.report_ledger.proofs.Vouched.{Vouches, deeds_append, deeds_unnumbered, run_vouched}
@@ -29,12 +31,12 @@ abbrev deeds_along : List Point → List Deed
 deeds_along [] = []
 deeds_along (point ∷ points) = deeds_of point.told ++ deeds_along points
 
-run_deeds : (number : ℕ) (points : List Point) → AreProperPoints points → deeds_told (run_lines number points) ≡ deeds_along points
-run_deeds number [] proper = refl
-run_deeds number (point ∷ points) proper =
+run_deeds : (number : ℕ) (points : List Point) → AreProperPoints points → StayInLane points → deeds_told (run_lines number points) ≡ deeds_along points
+run_deeds number [] proper lane = refl
+run_deeds number (point ∷ points) proper lane =
     deeds_append (lines_told number point.told) (run_lines (point.after.lines + 1) points)
-    ∙ ap (λ (ds : List Deed). ds ++ deeds_told (run_lines (point.after.lines + 1) points)) (told_deeds number point.told (recursion_from_All IsProperHappening point.told proper.0.each))
-    ∙ ap (λ (ds : List Deed). deeds_of point.told ++ ds) (run_deeds (point.after.lines + 1) points proper.1)
+    ∙ ap (λ (ds : List Deed). ds ++ deeds_told (run_lines (point.after.lines + 1) points)) (told_deeds number point.told (recursion_from_All IsProperHappening point.told proper.0.each) lane.0)
+    ∙ ap (λ (ds : List Deed). deeds_of point.told ++ ds) (run_deeds (point.after.lines + 1) points proper.1 lane.1)
 
 -- ---- the honest points are a front of the run
 
@@ -88,7 +90,7 @@ report_deeds asked points ending few run proper none =
     ∙ deeds_append (run_lines 1 (honest points)) vouches.rest
     ∙ ap (λ (ds : List Deed). deeds_told (run_lines 1 (honest points)) ++ ds) (deeds_unnumbered vouches.rest vouches.none)
     ∙ append-nil (deeds_told (run_lines 1 (honest points)))
-    ∙ run_deeds 1 (honest points) (honest_proper points proper)
+    ∙ run_deeds 1 (honest points) (honest_proper points proper) (honest_in_lane points (play_in_lane no_line (script_parts asked) points run))
 
 -- ---- THE LAW
 
@@ -98,7 +100,7 @@ report_tells_ledger follows asked points ending fit few run proper none =
     let text = told_text 1 points ++ ending in
     let end = state_behind no_line (honest points) in
     let same : deeds_in_report text ≡ deeds_along (honest points) = report_deeds asked points ending few run proper none in
-    let all : Follows empty_ledger (honest points) = subst (λ (ps : List Point). Follows empty_ledger ps) (sym front.is) (follows (lines_played no_line (script_parts asked) points) points front.count (script_played_fit no_line asked points fit) (script-short no_line asked points run (omega (arith, few))) (play-run no_line (script_parts asked) points run) front.honesty) in
+    let all : Follows empty_ledger (honest points) = subst (λ (ps : List Point). Follows empty_ledger ps) (sym front.is) (follows (lines_played no_line (script_parts asked) points) points front.count (script_played_fit no_line asked points fit) (script-short no_line asked points run (omega (arith, few))) (play-run no_line (script_parts asked) points run) (played-honest no_line (script_parts asked) points front.count front.honesty)) in
     let leads = leads_along empty_ledger no_line (honest points) (ledger_of no_line empty_ledger none_fits) all in
     let marks : IsLedgerOf (ledger_after_all empty_ledger (deeds_in_report text)) end = subst (λ (ds : List Deed). IsLedgerOf (ledger_after_all empty_ledger ds) end) (sym same) leads.marks in
     record {

@@ -1,4 +1,5 @@
 pub mod Lines
+pub mod InLane
 pub mod Deeds
 pub mod Vouched
 pub mod Alone

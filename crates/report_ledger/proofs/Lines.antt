@@ -55,6 +55,7 @@ inner_between : (gap : ℕ) → inner (between_text gap)
 inner_between gap = join is_inner (decimal gap ++ codes "-") (decimal (gap + 1)) (join is_inner (decimal gap) (codes "-") (inner_decimal gap) refl) (inner_decimal (gap + 1))
 
 pub inner_happening : (happening : Happening) → IsProperHappening happening → inner (happening_text happening)
+inner_happening (happenings.Lanes count) proper = inner_numbered (codes "lanes") count refl
 inner_happening (happenings.Machine number capacity) proper = inner_numbered (numbered (codes "machine") number) capacity (inner_numbered (codes "machine") number refl)
 inner_happening (happenings.Bridge number capacity) proper = inner_numbered (numbered (codes "bridge") number) capacity (inner_numbered (codes "bridge") number refl)
 inner_happening (happenings.Done machine act) proper = inner_act machine act proper.1

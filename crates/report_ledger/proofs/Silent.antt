@@ -20,7 +20,6 @@ use Rattle.node_core.specs.declared.act.Act.TheVariants as acts
 use Rattle.node_core.specs.declared.input.Input.{Input}
 use Rattle.line_report.specs.declared.happening.Happening.{Happening}
 use Rattle.line_report.specs.declared.happening.Happening.TheVariants as happenings
-use Rattle.line_script.specs.declared.line.ScriptLine.{ScriptLine}
 use Rattle.line_step.specs.Acts.{act_did, acts_did, answers, cut_told, sent_by}
 use Rattle.line_step.specs.Lines.{Becomes, Connects, Flows, LineDoes, Unless, move_told, spoil_told, unvouched_told}
 use Rattle.line_step.specs.Reasons.{May}
@@ -28,8 +27,8 @@ use Rattle.line_step.specs.Shown.{between_shown, kept_shown, shown_from, taken_b
 use Rattle.line_step.specs.State.{LineState}
 use Rattle.line_step.specs.Steps.{MachineSteps, is_second, read_by}
 use Rattle.line_step.specs.World.{WorldParts, end_of, link_at, link_of}
-use Rattle.line_step.proofs.Requests.{Request, RequestDoes, added_told, line_requests, request_of}
-use Rattle.line_step.proofs.Requests as requests
+use Rattle.line_step.specs.Requests.{Request, added_told}
+use Rattle.line_step.specs.Requests as requests
 
 abbrev pub IsSilent : Happening → Type 0
 IsSilent (happenings.With machine id) = ⊥
@@ -113,21 +112,18 @@ added_silent : (is_bridge : Bool) (capacity : ℕ) (s : LineState) → AreSilent
 added_silent true capacity s = (tt, tt)
 added_silent false capacity s = (tt, tt)
 
-request_silent : (number : ℕ) (request : Request) (before after : LineState) (told : List Happening) → RequestDoes number request before after told → AreSilent told
-request_silent number requests.nothing before after told does = becomes_silent does tt
-request_silent number requests.shows before after told does = becomes_silent does (shown_silent 1 before.machines)
-request_silent number (requests.adds is_bridge capacity used) before after told does = unless_silent _ before after told _ does (λ done. becomes_silent done (added_silent is_bridge capacity before))
-request_silent number (requests.gives machine input) before after told does = unless_silent _ before after told _ does (λ done. machine_silent number machine input before after told done)
-request_silent number (requests.connects machine) before after told does = unless_silent _ before after told _ does
+pub line_silent : (number : ℕ) (request : Request) (before after : LineState) (told : List Happening) → LineDoes number request before after told → AreSilent told
+line_silent number requests.nothing before after told does = becomes_silent does tt
+line_silent number requests.shows before after told does = becomes_silent does (shown_silent 1 before.machines)
+line_silent number (requests.adds lane is_bridge capacity used) before after told does = unless_silent _ before after told _ does (λ done. becomes_silent done (added_silent is_bridge capacity before))
+line_silent number (requests.gives machine input) before after told does = unless_silent _ before after told _ does (λ done. machine_silent number machine input before after told done)
+line_silent number (requests.connects machine) before after told does = unless_silent _ before after told _ does
     (λ (done : Connects number machine before after told). subst AreSilent (sym done.told_is) (join done.earlier done.later (machine_silent number machine _ _ done.between done.earlier done.first) (machine_silent number _ _ done.between after done.later done.second)))
-request_silent number (requests.flows machine side count) before after told does = unless_silent _ before after told _ does (λ (done : Flows number machine side count before after told). machine_silent number machine _ _ after told done.steps)
-request_silent number (requests.cuts gap) before after told does = unless_silent _ before after told _ does (λ done. becomes_silent {what = happenings.Cut gap ∷ []} done (tt, tt))
-request_silent number (requests.stops machine) before after told does = unless_silent _ before after told _ does (λ done. becomes_silent {what = happenings.Stop machine ∷ []} done (tt, tt))
-request_silent number (requests.spoils machine side) before after told does = unless_silent _ before after told _ does
+line_silent number (requests.flows machine side count) before after told does = unless_silent _ before after told _ does (λ (done : Flows number machine side count before after told). machine_silent number machine _ _ after told done.steps)
+line_silent number (requests.cuts gap) before after told does = unless_silent _ before after told _ does (λ done. becomes_silent {what = happenings.Cut gap ∷ []} done (tt, tt))
+line_silent number (requests.stops machine) before after told does = unless_silent _ before after told _ does (λ done. becomes_silent {what = happenings.Stop machine ∷ []} done (tt, tt))
+line_silent number (requests.spoils machine side) before after told does = unless_silent _ before after told _ does
     (λ done. becomes_silent {what = spoil_told machine side before} done (tt, cut_silent (link_of machine side) (spoil_sent (end_of side) (link_at (link_of machine side) before.world))))
-request_silent number (requests.moves_on gap step) before after told does = becomes_silent does (move_silent gap step (floor_move gap step before.world.floor))
-request_silent number (requests.lies machine sensed) before after told does = unless_silent _ before after told _ does (λ done. becomes_silent {what = happenings.Lie machine sensed ∷ unvouched_told before.unvouched} done (tt, unvouched_silent before.unvouched))
-request_silent number (requests.unsees machine side) before after told does = unless_silent _ before after told _ does (λ done. becomes_silent {what = happenings.Unseen machine side ∷ unvouched_told before.unvouched} done (tt, unvouched_silent before.unvouched))
-
-pub line_silent : (number : ℕ) (line : ScriptLine) (before after : LineState) (told : List Happening) → LineDoes number line before after told → AreSilent told
-line_silent number line before after told does = request_silent number (request_of line) before after told (line_requests number line before after told does)
+line_silent number (requests.moves_on gap step) before after told does = becomes_silent does (move_silent gap step (floor_move gap step before.world.floor))
+line_silent number (requests.lies machine sensed) before after told does = unless_silent _ before after told _ does (λ done. becomes_silent {what = happenings.Lie machine sensed ∷ unvouched_told before.unvouched} done (tt, unvouched_silent before.unvouched))
+line_silent number (requests.unsees machine side) before after told does = unless_silent _ before after told _ does (λ done. becomes_silent {what = happenings.Unseen machine side ∷ unvouched_told before.unvouched} done (tt, unvouched_silent before.unvouched))

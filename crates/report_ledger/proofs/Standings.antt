@@ -13,17 +13,18 @@ use Rattle.line_check.specs.Words.{cut_at_space}
 use Rattle.line_report.specs.Texts.{act_text, happening_text, told_text as body_text}
 use Rattle.line_report.specs.declared.happening.Happening.{Happening}
 use Rattle.line_report.specs.declared.happening.Happening.TheVariants as happenings
-use Rattle.line_script.specs.declared.line.ScriptLine.{ScriptLine}
 use Rattle.line_step.specs.Lines.{LineSteps}
 use Rattle.line_step.specs.Tracks.{TrackLine, TrackSteps, other_line, own_line}
 use Rattle.line_step.proofs.Beside.{beside-marks}
 use Rattle.line_step.specs.Runs.{IsRun, Point, state_behind, told_text}
 use Rattle.line_step.specs.Parts.{lines_played, script_parts}
+use Rattle.line_step.proofs.Newcomers.{played-honest}
 use Rattle.line_step.proofs.Playing.{play-run, script-short}
 use Rattle.one_standing.proofs.Playing.{script_played_fit}
 use Rattle.report_ledger.proofs.Alone.{script_alone}
 use Rattle.line_step.specs.Shown.{ascending, ids_marked, ids_owned, one_id, standing_told as told_standing, standings_told, with_id}
 use Rattle.line_step.specs.State.{LineState, marks_in, no_line, owned}
+use Rattle.line_step.specs.Requests.{Request}
 use Rattle.line_step.proofs.Unnamed.{apart_ids}
 use Rattle.node_core.specs.declared.act.Act.{Act}
 use Rattle.node_core.specs.declared.act.Act.TheVariants as acts
@@ -95,6 +96,7 @@ text_stands id before (happenings.With machine other) proper = place_read places
 text_stands id before (happenings.Between gap other) proper = place_read places.Between id before gap other proper.0 proper.1
 text_stands id before (happenings.Gone other) proper = ap (λ (o : Option ℕ). if is_id id o then None else before) (id_read other proper)
 text_stands id before (happenings.Done machine act) proper = act_stands id before machine act
+text_stands id before (happenings.Lanes count) proper = refl
 text_stands id before (happenings.Machine number capacity) proper = refl
 text_stands id before (happenings.Bridge number capacity) proper = refl
 text_stands id before (happenings.Cut gap) proper = refl
@@ -270,17 +272,17 @@ standings_stand before next id place stood has =
 
 -- ---- A LINE, AND A RUN
 
-line_stands_told : (number : ℕ) (line : ScriptLine) (before after : LineState) (told : List Happening) (id : ℕ) (place : Option Place) → LineSteps number line before after told → place ≡ standing_of (marks_in before id) → Stands (marks_in after id) → stands_along id place told ≡ standing_of (marks_in after id)
-line_stands_told number line before after told id place steps stood has =
+line_stands_told : (number : ℕ) (request : Request) (before after : LineState) (told : List Happening) (id : ℕ) (place : Option Place) → LineSteps number request before after told → place ≡ standing_of (marks_in before id) → Stands (marks_in after id) → stands_along id place told ≡ standing_of (marks_in after id)
+line_stands_told number request before after told id place steps stood has =
     let same : marks_in after id ≡ marks_in steps.next id = ap (λ (s : LineState). marks_in s id) steps.after_is in
     ap (stands_along id place) steps.told_is
     ∙ along_append id place steps.done (standings_told before steps.next)
-    ∙ ap (λ (b : Option Place). stands_along id b (standings_told before steps.next)) (silent_along id place steps.done (line_silent number line before steps.next steps.done steps.does))
+    ∙ ap (λ (b : Option Place). stands_along id b (standings_told before steps.next)) (silent_along id place steps.done (line_silent number request before steps.next steps.done steps.does))
     ∙ standings_stand before steps.next id place stood (subst Stands same has)
     ∙ ap standing_of (sym same)
 
 track_stands_told : (number : ℕ) (line : TrackLine) (before after : LineState) (told : List Happening) (id : ℕ) (place : Option Place) → TrackSteps number line before after told → place ≡ standing_of (marks_in before id) → Stands (marks_in after id) → stands_along id place told ≡ standing_of (marks_in after id)
-track_stands_told number (own_line line) before after told id place steps stood has = line_stands_told number line before after told id place steps stood has
+track_stands_told number (own_line request) before after told id place steps stood has = line_stands_told number request before after told id place steps.0 stood has
 track_stands_told number other_line before after told id place steps stood has =
     ap (stands_along id place) steps.1 ∙ stood ∙ ap standing_of (sym (beside-marks before after id steps.0))
 
@@ -320,7 +322,7 @@ report_tells_standings one tells asked points ending fit few run proper none =
     ap vouched (run_read no_line points ending (script-short no_line asked points run (omega (arith, few))) proper) ∙ vouches.is in
     let ledger : TellsLedger text (state_behind no_line (honest points)) = tells asked points ending fit few run proper none in
     let proper_front : AreProperPoints (take front.count points) = subst (λ (ps : List Point). AreProperPoints ps) front.is (honest_proper points proper) in
-    let each = one (lines_played no_line (script_parts asked) points) points front.count (script_played_fit no_line asked points fit) (script-short no_line asked points run (omega (arith, few))) (play-run no_line (script_parts asked) points run) front.honesty in
+    let each = one (lines_played no_line (script_parts asked) points) points front.count (script_played_fit no_line asked points fit) (script-short no_line asked points run (omega (arith, few))) (play-run no_line (script_parts asked) points run) (played-honest no_line (script_parts asked) points front.count front.honesty) in
     record {
       each = λ id.
           ledger_stands (ledger_in text) (state_behind no_line (honest points)) id ledger.standings

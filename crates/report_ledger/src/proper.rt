@@ -36,7 +36,8 @@ fn happening_is_proper(happening: &Happening)
             id_is_proper(*id);
         }
         Happening::Gone { id } => id_is_proper(*id),
-        Happening::Machine { .. }
+        Happening::Lanes { .. }
+        | Happening::Machine { .. }
         | Happening::Bridge { .. }
         | Happening::Cut { .. }
         | Happening::Stop { .. }

@@ -32,20 +32,25 @@ use Rattle.std.proofs.Common.{
   eqb-true,
   eq-eqb,
 }
-use Rattle.std.specs.Prelude.{take}
-use Rattle.std.specs.List.{AllByRecursion}
-use Rattle.std.proofs.lemmas.Bool.{false≢true, or_cases, false_from_ne_true, or_parts}
+use Rattle.std.specs.Prelude.{if◌then◌else◌, take}
+use Rattle.std.specs.List.{AllByRecursion, list_any}
+use Rattle.std.proofs.lemmas.Bool.{false≢true, or_cases, false_from_ne_true, or_left, or_parts}
+use Rattle.std.proofs.lemmas.List.Folds.{list_any-append}
 use Rattle.line_step.proofs.Running.{short-behind}
 use Rattle.one_standing.proofs.Reaching.{run_more, behind_more}
 use Rattle.one_standing.proofs.MirroringEnds.{vacuous}
-use Rattle.line_script.specs.declared.line.ScriptLine.{ScriptLine}
 use Rattle.standings.specs.Marks.{has_mark, intake, kept, outlet}
 use Rattle.standings.specs.declared.mark.Mark.TheVariants.{Kept, Outlet, Intake}
 use Rattle.line_report.specs.declared.happening.Happening.{Happening}
+use Rattle.line_report.specs.declared.happening.Happening.TheVariants as happenings
+use Rattle.node_core.specs.declared.act.Act.TheVariants as acts
+use Rattle.standings.specs.declared.mark.Mark.{Mark}
+use Rattle.one_standing.specs.Carried.{stand_of}
+use Rattle.one_standing.proofs.MarksOf.{HasMark}
 use Rattle.line_step.specs.Lies.{has_lie, tells_lie}
 use Rattle.line_step.specs.Lines.{LineSteps}
 use Rattle.line_step.specs.Numbered.{node_at}
-use Rattle.line_step.specs.Tracks.{IsBeside, TrackLine, TrackSteps, other_line, own_line}
+use Rattle.line_step.specs.Tracks.{ComesFromElsewhere, IsBeside, TrackLine, TrackSteps, other_line, own_line}
 use Rattle.line_step.specs.World.{WorldParts}
 use Rattle.line_step.proofs.Beside.{beside-lane, beside-old}
 use Rattle.node_core.specs.declared.lane.Lane.{Lane}
@@ -54,31 +59,38 @@ use Rattle.line_world.specs.FloorPlan.{machine_at}
 use Rattle.line_step.specs.Runs.{IsRun, Point, all_told, state_behind, IsShort}
 use Rattle.line_step.specs.Shown.{standings_told}
 use Rattle.line_step.specs.State.{LineState, marks_in, no_line}
+use Rattle.line_step.specs.Requests.{Request, gives}
 use Rattle.one_standing.specs.Carried.{Trace}
 use Rattle.one_standing.specs.Stands.{Stands}
 use Rattle.one_standing.specs.Waits.{AreWaiting}
-use Rattle.one_standing.specs.Standing.{HasOneStanding, IsFitLine, IsFitTrack}
+use Rattle.one_standing.specs.Standing.{HasOneStanding, IsFitRequest, IsFitTrack}
 use Rattle.one_standing.proofs.ApartStep.{does_goes}
 use Rattle.one_standing.proofs.Carrying.{SaysAlone}
 use Rattle.one_standing.proofs.FactsOf.{facts_of}
 use Rattle.one_standing.proofs.LedgerMarks.{mark_at_machine}
 use Rattle.one_standing.proofs.LineForms.{ConnectsBear}
-use Rattle.one_standing.proofs.LineRun.{AreStood, Stood, line_stood, none_stood, run_stood, honest_front, track_stood}
+use Rattle.one_standing.proofs.LineRun.{AreStoodBy, Stood, StoodBy, none_stood, run_by, honest_front, track_stood}
+use Rattle.one_standing.proofs.ApartStep.{AreNews}
+use Rattle.one_standing.proofs.Comings.{away_has_none, track_news}
+use Rattle.node_core.specs.declared.input.Input.TheVariants as inputs
+use Rattle.line_step.specs.Homes.{AreNewcomers, IsNewcomer, is_home}
+use Rattle.line_step.proofs.Shifted.{AreAskedFor, AsksFor, IsAskedFor, asks_to_get, steps_asked}
 use Rattle.line_step.proofs.Vouching.{none_lied}
 use Rattle.one_standing.proofs.OneStand.{one_standing_of}
 use Rattle.one_standing.proofs.RestMore.{counted_stands}
-use Rattle.supervisor_replay.specs.Along.{AgreesAlong}
+use Rattle.supervisor_replay.specs.Along.{AgreesAlong, told_since}
 use Rattle.handover_in.specs.State.{board_of_phase as held_in}
 use Rattle.handover_in.specs.declared.phase.Phase.{Phase as InPhase}
 use Rattle.node_core.specs.Own.{id_of}
 use Rattle.standings.specs.Marks.{is_held}
-use Rattle.supervisor_replay.specs.Replay.{has_left, Agrees, AreWatched, At, IsOnlyMark, IsWatched, KeepAgreeing, Nowhere, ReplayAgrees, Way, is_marked_at, told_of}
+use Rattle.supervisor_replay.specs.Replay.{has_left, Agrees, AreWatched, At, IsOnlyMark, IsWatched, KeepAgreeing, Nowhere, ReplayAgrees, Way, came_in, is_marked_at, since_came, told_of}
 use Rattle.one_standing.proofs.ApartFloor.{counted}
 use Rattle.supervisor_replay.proofs.Bodies.{holds_it, keeps_it, misses_it, takes_it, will_leave}
 use Rattle.supervisor_replay.proofs.DownForms.{free_beside}
 use Rattle.supervisor_replay.proofs.Views.{IsSame}
 use Rattle.supervisor_replay.proofs.Since.{left_since}
-use Rattle.supervisor_replay.proofs.Lines.{Agreed, still_agrees}
+use Rattle.supervisor_replay.proofs.Lines.{Agreed, Comes, IsUnknown, still_agrees}
+use Rattle.supervisor_replay.proofs.Turns.{none_marked as marked_none}
 use Rattle.supervisor_replay.proofs.Never.{Never, left_was, never_step}
 use Rattle.supervisor_replay.proofs.Running.{does_agree}
 use Rattle.supervisor_replay.proofs.Sights.{sole_of, view_of}
@@ -195,13 +207,15 @@ counted_agrees id next lines past done told before is was =
       off = refl;
     }) (λ x old. old) was)
 
-steps_agree : (alone : SaysAlone) (id number : ℕ) (line : ScriptLine) (before after : LineState)
+steps_agree : (alone : SaysAlone) (id number : ℕ) (request : Request) (before after : LineState)
     (told past : List Happening)
-    → Stood before → Stood after → after.lines ≤ 1000000 → tells_lie told ≡ false
-    → IsWatched before → IsWatched after
-    → LineSteps number line before after told → Agreed id before past
+    → (was : Stood before) → Stood after → after.lines ≤ 1000000 → tells_lie told ≡ false
+    → IsWatched before → IsWatched after → AreNews was.trace before told
+    → ComesFromElsewhere request before
+    → (steps : LineSteps number request before after told) → Comes id past before steps.done request
+    → Agreed id before past
     → Agreed id after (past ++ told)
-steps_agree alone id number line before after told past was now few honest watched watched2 steps
+steps_agree alone id number request before after told past was now few honest watched watched2 news from steps comes
     agreed =
     let next : LineState = steps.next in
     let done : List Happening = steps.done in
@@ -221,14 +235,15 @@ steps_agree alone id number line before after told past was now few honest watch
     honest_front done (standings_told before next) (ap tells_lie (sym steps.told_is) ∙ honest) in
     subst (λ (s : LineState). Agreed id s (past ++ told)) (sym steps.after_is)
     (counted_agrees id next steps.lines past done told before steps.told_is
-    (does_agree id t t2 number line before next done past front steps.does (record {
+    (does_agree id t t2 number request before next done past comes front steps.does (record {
       st = was.stands;
       one = one_standing_of t before was.stands;
       facts = facts_of alone t before was.stands was.waits;
       st2 = st2;
       one2 = one_standing_of t2 next st2;
       facts2 = facts_of alone t2 next st2 (λ machine. waits machine);
-      goes = does_goes number line before next done was.stands.ids steps.does;
+      goes = does_goes number request before next done was.stands.ids from steps.does;
+      news = subst (λ (ts : List Happening). AreNews t before ts) steps.told_is news;
       was = agreed;
       watched = watched;
       watched2 = λ machine x marked. seen machine x marked;
@@ -277,11 +292,11 @@ lines_few s stood = stood.stands.together.short
 
 -- that what has left is not started again, behind the next line
 next_never : SaysAlone
-    → (id j number : ℕ) (line : ScriptLine) (before after : LineState) (told past : List Happening)
-    → number ≤ 1000000 → IsFitLine line → Stood before → LineSteps number line before after told
+    → (id j number : ℕ) (request : Request) (before after : LineState) (told past : List Happening)
+    → number ≤ 1000000 → IsFitRequest request → Stood before → LineSteps number request before after told
     → Agreed id after (past ++ told) → Never id j before past → Never id j after (past ++ told)
-next_never alone id j number line before after told past few fit was steps agreed never =
-    never_step alone id j number line before after told past few fit was steps
+next_never alone id j number request before after told past few fit was steps agreed never =
+    never_step alone id j number request before after told past few fit was steps
     (λ left. (agreed.holds.behind (j + 1) left (j + 1) (omega arith)).0) never
 
 none_never : (id j : ℕ) → Never id j no_line []
@@ -305,149 +320,245 @@ beside_seen id s t is = record {
 }
 
 beside_agrees : (id : ℕ) (s t : LineState) (told past : List Happening) → IsBeside s t → told ≡ []
-    → Agreed id s past → Agreed id t (past ++ told)
+    → Agreed id s past → Agreed id t (since_came id past told)
 beside_agrees id s t told past is none was =
-    subst (λ (ts : List Happening). Agreed id t (past ++ ts)) (sym none)
+    subst (λ (ts : List Happening). Agreed id t (since_came id past ts)) (sym none)
     (still_agrees id s t past [] none_silent (beside_seen id s t is)
     (beside-old 1 s.machines t.machines is.machines) was)
 
 beside_never : (id j : ℕ) (s t : LineState) (told past : List Happening) → IsBeside s t → told ≡ []
-    → Never id j s past → Never id j t (past ++ told)
+    → Never id j s past → Never id j t (since_came id past told)
 beside_never id j s t told past is none was =
-    subst (λ (ts : List Happening). Never id j t (past ++ ts)) (sym none)
+    subst (λ (ts : List Happening). Never id j t (since_came id past ts)) (sym none)
     (subst (λ (ts : List Happening). Never id j t ts) (sym (append-nil past))
     (record { still = was.still; free = λ left. free_beside s t is (was.free left) }))
 
+-- ---- what is told to come
+
+either_way : {X : Type 0} (a b : Bool) → (a || b) ≡ true → (a ≡ true → X) → (b ≡ true → X) → X
+either_way true b is one two = one refl
+either_way false b is one two = two is
+
+-- so it is in the whole line
+came_told : (id : ℕ) (told done standings : List Happening) → told ≡ done ++ standings
+    → list_any (came_in id) done ≡ true → list_any (came_in id) told ≡ true
+came_told id told done standings is came =
+    ap (list_any (came_in id)) is ∙ list_any-append (came_in id) done standings
+    ∙ or_left (list_any (came_in id) done) (list_any (came_in id) standings) came
+
+new_never : (id j : ℕ) (s : LineState) → Never id j s []
+new_never id j s = record {
+  still = λ left. absurd (false≢true left);
+  free = λ left. absurd (false≢true left);
+}
+
+-- ---- a board that comes from another lane
+
+-- no machine has a mark of it, so the marks agree with nothing at all
+away_agreed : (id : ℕ) (s : LineState) → ((mark : Mark) → HasMark (stand_of s) id mark → ⊥) → Agreed id s []
+away_agreed id s none = record {
+  holds = record {
+    kept_at = λ j has. absurd (marked_none id j s none (inl has));
+    held_at = λ j has. absurd (marked_none id j s none (inr (inl has)));
+    at = λ j place here. nowhere_at j place;
+    way = λ j place. nowhere_way j place;
+    on_way = λ j left taken kept held. absurd (false≢true left);
+    off = λ lost. absurd (false≢true lost);
+    lost = λ j lost has. absurd (false≢true lost);
+    leaves = λ j held leaving lost. absurd (marked_none id j s none (inr (inl held)));
+    on_floor = λ j place off. nowhere_way j place;
+    over = λ j left taken. absurd (false≢true left);
+    behind = λ k left i above. absurd (false≢true left);
+  };
+  known = inr (record { told = refl; left = λ gap. refl });
+}
+
+away_unmarked : (id : ℕ) (past : List Happening) (s : LineState) → StoodBy past s → is_home id past ≡ false
+    → (mark : Mark) → HasMark (stand_of s) id mark → ⊥
+away_unmarked id past s by away mark marked = away_has_none by.stood.stands (by.away id away) marked
+
+-- what is told to come is what was asked for
+came_asked : {request : Request} {machine other : ℕ} (id : ℕ) (past : List Happening)
+    → AsksFor request machine (acts.Gets other) → IsNewcomer past (own_line request) → other ≡ id
+    → is_home id past ≡ false
+came_asked id past asks_to_get new same = subst (λ (x : ℕ). is_home x past ≡ false) same new
+
+came_one : (id : ℕ) (past : List Happening) (request : Request) (h : Happening) → IsAskedFor request h
+    → IsNewcomer past (own_line request) → came_in id h ≡ true → is_home id past ≡ false
+came_one id past request (happenings.Done machine (acts.Gets other)) asks new is =
+    came_asked id past asks new (eqb-true other id is)
+came_one id past request _ asks new is = absurd (false≢true is)
+
+came_away : (id : ℕ) (past : List Happening) (request : Request) (told : List Happening) → AreAskedFor request told
+    → IsNewcomer past (own_line request) → list_any (came_in id) told ≡ true → is_home id past ≡ false
+came_away id past request [] all new is = absurd (false≢true is)
+came_away id past request (h ∷ told) all new is =
+    either_way (came_in id h) (list_any (came_in id) told) is
+    (λ here. came_one id past request h all.0 new here)
+    (λ later. came_away id past request told all.1 new later)
+
+-- what a board that comes has to do with the track: `mine` is what a supervisor has of an id
+comes_of : (id : ℕ) (past mine : List Happening) (request : Request) (s : LineState) (done : List Happening)
+    → StoodBy past s
+    → IsNewcomer past (own_line request) → (list_any (came_in id) done ≡ true → IsUnknown id mine)
+    → Comes id mine s done request
+comes_of id past mine (gives machine (inputs.Gets board)) s done by new unknown =
+    (λ same came. unknown came, λ mark marked. away_unmarked board.id past s by new mark marked)
+comes_of id past mine (gives machine _) s done by new unknown = tt
+comes_of id past mine _ s done by new unknown = tt
+
+-- ---- a line of a track
+
+own_agrees : (alone : SaysAlone) (id number : ℕ) (request : Request) (before after : LineState)
+    (told past mine : List Happening)
+    → StoodBy past before → Stood after → after.lines ≤ 1000000 → tells_lie told ≡ false
+    → IsWatched before → IsWatched after → IsNewcomer past (own_line request)
+    → TrackSteps number (own_line request) before after told → Agreed id before mine
+    → (came : Bool) → list_any (came_in id) told ≡ came
+    → Agreed id after (if came then told else mine ++ told)
+own_agrees alone id number request before after told past mine was now few honest watched watched2 new steps agreed
+    true is =
+    let away : is_home id past ≡ false =
+    came_away id past request told (steps_asked number request before after told steps.0) new is in
+    steps_agree alone id number request before after told [] was.stood now few honest watched watched2
+    (track_news number past (own_line request) before after told was new steps) steps.1 steps.0
+    (comes_of id past [] request before steps.0.done was new (λ came. record { told = refl; left = λ gap. refl }))
+    (away_agreed id before (away_unmarked id past before was away))
+own_agrees alone id number request before after told past mine was now few honest watched watched2 new steps agreed
+    false is =
+    steps_agree alone id number request before after told mine was.stood now few honest watched watched2
+    (track_news number past (own_line request) before after told was new steps) steps.1 steps.0
+    (comes_of id past mine request before steps.0.done was new (λ came.
+    absurd (false≢true (sym is ∙ came_told id told steps.0.done (standings_told before steps.0.next) steps.0.told_is came))))
+    agreed
+
 track_agrees : (alone : SaysAlone) (id number : ℕ) (line : TrackLine) (before after : LineState)
-    (told past : List Happening)
-    → Stood before → Stood after → after.lines ≤ 1000000 → tells_lie told ≡ false
-    → IsWatched before → IsWatched after
-    → TrackSteps number line before after told → Agreed id before past
-    → Agreed id after (past ++ told)
-track_agrees alone id number (own_line line) before after told past was now few honest watched watched2
-    steps agreed =
-    steps_agree alone id number line before after told past was now few honest watched watched2 steps agreed
-track_agrees alone id number other_line before after told past was now few honest watched watched2 steps
+    (told past mine : List Happening)
+    → StoodBy past before → Stood after → after.lines ≤ 1000000 → tells_lie told ≡ false
+    → IsWatched before → IsWatched after → IsNewcomer past line
+    → TrackSteps number line before after told → Agreed id before mine
+    → Agreed id after (since_came id mine told)
+track_agrees alone id number (own_line request) before after told past mine was now few honest watched watched2 new steps
     agreed =
-    beside_agrees id before after told past steps.0 steps.1 agreed
+    own_agrees alone id number request before after told past mine was now few honest watched watched2 new steps agreed
+    (list_any (came_in id) told) refl
+track_agrees alone id number other_line before after told past mine was now few honest watched watched2 new steps
+    agreed =
+    beside_agrees id before after told mine steps.0 steps.1 agreed
+
+own_never : SaysAlone
+    → (id j number : ℕ) (request : Request) (before after : LineState) (told mine : List Happening)
+    → number ≤ 1000000 → IsFitRequest request → Stood before → LineSteps number request before after told
+    → Never id j before mine → (came : Bool)
+    → Agreed id after (if came then told else mine ++ told)
+    → Never id j after (if came then told else mine ++ told)
+own_never alone id j number request before after told mine few fit was steps never true agreed =
+    next_never alone id j number request before after told [] few fit was steps agreed (new_never id j before)
+own_never alone id j number request before after told mine few fit was steps never false agreed =
+    next_never alone id j number request before after told mine few fit was steps agreed never
 
 track_never : SaysAlone
-    → (id j number : ℕ) (line : TrackLine) (before after : LineState) (told past : List Happening)
+    → (id j number : ℕ) (line : TrackLine) (before after : LineState) (told mine : List Happening)
     → number ≤ 1000000 → IsFitTrack line → Stood before → TrackSteps number line before after told
-    → Agreed id after (past ++ told) → Never id j before past → Never id j after (past ++ told)
-track_never alone id j number (own_line line) before after told past few fit was steps agreed never =
-    next_never alone id j number line before after told past few fit was steps agreed never
-track_never alone id j number other_line before after told past few fit was steps agreed never =
-    beside_never id j before after told past steps.0 steps.1 never
+    → Agreed id after (since_came id mine told) → Never id j before mine → Never id j after (since_came id mine told)
+track_never alone id j number (own_line request) before after told mine few fit was steps agreed never =
+    own_never alone id j number request before after told mine few fit was steps.0 never (list_any (came_in id) told)
+    agreed
+track_never alone id j number other_line before after told mine few fit was steps agreed never =
+    beside_never id j before after told mine steps.0 steps.1 never
 
 -- ---- along a run
 
-run_agrees : (alone : SaysAlone) (s : LineState) (asked : List TrackLine) (points : List Point)
+run_agrees : (alone : SaysAlone) (id : ℕ) (s : LineState) (asked : List TrackLine) (points : List Point)
     (n : ℕ)
-    (past : List Happening) → AllByRecursion IsFitTrack asked → IsShort s points
-    → Stood s
-    → IsRun s asked points → AreStood (take n points) → has_lie (take n points) ≡ false
+    (past mine : List Happening) → AllByRecursion IsFitTrack asked → IsShort s points
+    → StoodBy past s
+    → IsRun s asked points → AreStoodBy past (take n points) → has_lie (take n points) ≡ false
+    → AreNewcomers past (take n asked) (take n points)
     → IsWatched s
-    → AreWatched (take n points) → ((id : ℕ) → Agreed id s past) → ((id j : ℕ) → Never id j s past)
-    → KeepAgreeing past (take n points)
-run_agrees alone s asked points zero past fit few was run all honest watched seen agreed never = tt
-run_agrees alone s [] [] (suc n) past fit few was run all honest watched seen agreed never = tt
-run_agrees alone s [] (point ∷ points)
-    (suc n) past fit few was run all honest watched seen agreed never = absurd run
-run_agrees alone s (line ∷ asked) []
-    (suc n) past fit few was run all honest watched seen agreed never = absurd run
-run_agrees alone s (line ∷ asked) (point ∷ points)
-    (suc n) past fit few was run all honest watched seen agreed never =
+    → AreWatched (take n points) → Agreed id s mine → ((j : ℕ) → Never id j s mine)
+    → KeepAgreeing id mine (take n points)
+run_agrees alone id s asked points zero past mine fit few was run all honest new watched seen agreed never = tt
+run_agrees alone id s [] [] (suc n) past mine fit few was run all honest new watched seen agreed never = tt
+run_agrees alone id s [] (point ∷ points)
+    (suc n) past mine fit few was run all honest new watched seen agreed never = absurd run
+run_agrees alone id s (line ∷ asked) []
+    (suc n) past mine fit few was run all honest new watched seen agreed never = absurd run
+run_agrees alone id s (line ∷ asked) (point ∷ points)
+    (suc n) past mine fit few was run all honest new watched seen agreed never =
     let here : s.lines + 1 ≤ 1000000 = few.0 in
     let left : IsShort point.after points = few.1 in
     let first : tells_lie point.told ≡ false =
     (or_parts (tells_lie point.told) (has_lie (take n points)) honest).0 in
     let rest : has_lie (take n points) ≡ false =
     (or_parts (tells_lie point.told) (has_lie (take n points)) honest).1 in
-    let next : (id : ℕ) → Agreed id point.after (past ++ point.told) =
-    λ id. track_agrees alone id (s.lines + 1) line s point.after point.told past was all.0
-    (lines_few point.after all.0)
-    first watched seen.0 run.0 (agreed id) in
-    let later : (id j : ℕ) → Never id j point.after (past ++ point.told) =
-    λ id j. track_never alone id j
-    (s.lines + 1) line s point.after point.told past here fit.0 was run.0 (next id)
-    (never id j) in (
-      λ id. agrees_of all.0.trace id point.after (past ++ point.told) all.0.stands
-          (one_standing_of all.0.trace point.after all.0.stands) (next id) (later id),
-      run_agrees alone point.after asked points n (past
-          ++ point.told) fit.1 left all.0 run.1 all.1 rest seen.0 seen.1 next later,
+    let now : List Happening = since_came id mine point.told in
+    let next : Agreed id point.after now =
+    track_agrees alone id (s.lines + 1) line s point.after point.told past mine was all.0.stood
+    (lines_few point.after all.0.stood)
+    first watched seen.0 new.0 run.0 agreed in
+    let later : (j : ℕ) → Never id j point.after now =
+    λ j. track_never alone id j
+    (s.lines + 1) line s point.after point.told mine here fit.0 was.stood run.0 next
+    (never j) in (
+      agrees_of all.0.stood.trace id point.after now all.0.stood.stands
+          (one_standing_of all.0.stood.trace point.after all.0.stood.stands) next later,
+      run_agrees alone id point.after asked points n (past
+          ++ point.told) now fit.1 left all.0 run.1 all.1 rest new.1 seen.0 seen.1 next later,
     )
 
 -- THE LAW
 pub replay_agrees : SaysAlone → ConnectsBear → ReplayAgrees
-replay_agrees alone connects asked points n fit few run honest watched =
-    run_agrees alone no_line asked points n [] fit few none_stood run
-    (run_stood alone connects no_line asked points n fit few none_stood run honest) honest none_watched
-    watched none_agreed none_never
+replay_agrees alone connects asked points n fit few run honest watched id =
+    run_agrees alone id no_line asked points n [] [] fit few none_stood run
+    (run_by alone connects [] no_line asked points n fit few none_stood run honest.told honest.newcomers)
+    honest.told honest.newcomers none_watched watched (none_agreed id) (none_never id)
 
 -- ---- the next line behind a run
 
 -- behind a whole run
-behind_run : (alone : SaysAlone) (s : LineState) (asked : List TrackLine) (points : List Point)
-    (past : List Happening)
-    → ConnectsBear → AllByRecursion IsFitTrack asked → IsShort s points → Stood s
+behind_run : (alone : SaysAlone) (id : ℕ) (s : LineState) (asked : List TrackLine) (points : List Point)
+    (past mine : List Happening)
+    → ConnectsBear → AllByRecursion IsFitTrack asked → IsShort s points → StoodBy past s
     → IsRun s asked points
-    → has_lie points ≡ false → IsWatched s → AreWatched points → ((id : ℕ) → Agreed id s past)
-    → ((id j : ℕ) → Never id j s past)
-    → Stood (state_behind s points) × (IsWatched (state_behind s points)
-    × (((id : ℕ) → Agreed id (state_behind s points) (past ++ all_told points))
-    × ((id j : ℕ) → Never id j (state_behind s points) (past ++ all_told points))))
-behind_run alone s [] [] past connects fit few was run honest watched seen agreed never = (
-  was,
-  (
-    watched,
-    (
-      λ id. subst (λ (ts : List Happening). Agreed id s ts) (sym (append-nil past))
-          (agreed id),
-      λ id j. subst (λ (ts : List Happening). Never id j s ts) (sym (append-nil past))
-          (never id j),
-    ),
-  ),
-)
-behind_run alone s []
-    (point ∷ points) past connects fit few was run honest watched seen agreed never = absurd run
-behind_run alone s (line ∷ asked) [] past connects fit few was run honest watched seen agreed never
+    → AreNewcomers past asked points
+    → has_lie points ≡ false → IsWatched s → AreWatched points → Agreed id s mine
+    → ((j : ℕ) → Never id j s mine)
+    → StoodBy (past ++ all_told points) (state_behind s points) × (IsWatched (state_behind s points)
+    × (Agreed id (state_behind s points) (told_since id mine points)
+    × ((j : ℕ) → Never id j (state_behind s points) (told_since id mine points))))
+behind_run alone id s [] [] past mine connects fit few was run new honest watched seen agreed never =
+    (subst (λ (ts : List Happening). StoodBy ts s) (sym (append-nil past)) was, (watched, (agreed, never)))
+behind_run alone id s []
+    (point ∷ points) past mine connects fit few was run new honest watched seen agreed never = absurd run
+behind_run alone id s (line ∷ asked) [] past mine connects fit few was run new honest watched seen agreed never
     = absurd run
-behind_run alone s (line ∷ asked)
-    (point ∷ points) past connects fit few was run honest watched seen agreed never =
+behind_run alone id s (line ∷ asked)
+    (point ∷ points) past mine connects fit few was run new honest watched seen agreed never =
     let first : tells_lie point.told ≡ false =
     (or_parts (tells_lie point.told) (has_lie points) honest).0 in
     let rest : has_lie points ≡ false = (or_parts (tells_lie point.told) (has_lie points) honest).1 in
     let here : s.lines + 1 ≤ 1000000 = few.0 in
-    let stood : Stood point.after =
+    let stood : StoodBy (past ++ point.told) point.after =
     track_stood alone connects
-    (s.lines + 1) line s point.after point.told refl here fit.0 first was run.0 in
+    (s.lines + 1) past line s point.after point.told refl here fit.0 new.0 first was run.0 in
     let left : IsShort point.after points = few.1 in
-    let next : (id : ℕ) → Agreed id point.after (past ++ point.told) =
-    λ id. track_agrees alone id (s.lines + 1) line s point.after point.told past was stood
-    (lines_few point.after stood)
-    first watched seen.0 run.0 (agreed id) in
-    let once : (id j : ℕ) → Never id j point.after (past ++ point.told) =
-    λ id j. track_never alone id j
-    (s.lines + 1) line s point.after point.told past here fit.0 was run.0 (next id)
-    (never id j) in
-    let same = append_assoc past point.told (all_told points) in
+    let now : List Happening = since_came id mine point.told in
+    let next : Agreed id point.after now =
+    track_agrees alone id (s.lines + 1) line s point.after point.told past mine was stood.stood
+    (lines_few point.after stood.stood)
+    first watched seen.0 new.0 run.0 agreed in
+    let once : (j : ℕ) → Never id j point.after now =
+    λ j. track_never alone id j
+    (s.lines + 1) line s point.after point.told mine here fit.0 was.stood run.0 next
+    (never j) in
     let later =
-    behind_run alone point.after asked points (past
-    ++ point.told) connects fit.1 left stood run.1 rest seen.0 seen.1 next
+    behind_run alone id point.after asked points (past
+    ++ point.told) now connects fit.1 left stood run.1 new.1 rest seen.0 seen.1 next
     once in (
-      later.0,
-      (
-        later.1.0,
-        (
-          λ id. subst
-              (λ (ts : List Happening). Agreed id (state_behind point.after points) ts) same
-              (later.1.1.0 id),
-          λ id j. subst
-              (λ (ts : List Happening). Never id j (state_behind point.after points) ts) same
-              (later.1.1.1 id j),
-        ),
-      ),
+      subst (λ (ts : List Happening). StoodBy ts (state_behind point.after points))
+          (append_assoc past point.told (all_told points)) later.0,
+      later.1,
     )
 
 -- a run whose last line remembers no lie told none
@@ -471,54 +582,55 @@ lies_first (first ∷ points) point is =
       none_both true b one two = one
 
 next_agrees : (alone : SaysAlone) → ConnectsBear
-    → (line : ScriptLine) (after : LineState) (told : List Happening)
-    (asked : List TrackLine) (points : List Point) → AllByRecursion IsFitTrack asked
-    → IsFitLine line
+    → (after : LineState) (told : List Happening)
+    (asked : List TrackLine) (points : List Point) (line : TrackLine) → AllByRecursion IsFitTrack asked
+    → IsFitTrack line → AreNewcomers [] asked points → IsNewcomer (all_told points) line
     → (state_behind no_line points).lines + 1 ≤ 1000000 → IsRun no_line asked points
-    → LineSteps ((state_behind no_line points).lines + 1) line
+    → TrackSteps ((state_behind no_line points).lines + 1) line
     (state_behind no_line points) after told
     → after.unvouched ≡ None → AreWatched points → IsWatched after → (id : ℕ)
-    → Agrees (all_told points ++ told) after id
-next_agrees alone connects line after told asked points fit fits few run steps none seen watched id
+    → Agrees (since_came id (told_since id [] points) told) after id
+next_agrees alone connects after told asked points line fit fits new newcomer few run steps none seen watched id
     =
     let point : Point = record { told = told; after = after } in
-    let whole : IsRun no_line (asked ++ own_line line ∷ []) (points ++ point ∷ []) =
-    run_more no_line asked points (own_line line) point run steps in
+    let whole : IsRun no_line (asked ++ line ∷ []) (points ++ point ∷ []) =
+    run_more no_line asked points line point run steps in
     let honest : has_lie (points ++ point ∷ []) ≡ false =
-    honest_run (asked ++ own_line line ∷ []) (points ++ point ∷ []) after whole
+    honest_run (asked ++ line ∷ []) (points ++ point ∷ []) after whole
     (behind_more no_line points point) none in
     let parts = lies_first points point honest in
     let within : IsShort no_line points = short-behind no_line asked points run few in
+    let mine : List Happening = told_since id [] points in
     let before =
-    behind_run alone no_line asked points [] connects fit within none_stood run parts.0
-    none_watched seen none_agreed
-    none_never in
-    let stood : Stood after =
-    line_stood alone connects ((state_behind no_line points).lines + 1) line
+    behind_run alone id no_line asked points [] [] connects fit within none_stood run new parts.0
+    none_watched seen (none_agreed id)
+    (none_never id) in
+    let by : StoodBy (all_told points ++ told) after =
+    track_stood alone connects ((state_behind no_line points).lines + 1) (all_told points) line
     (state_behind no_line points) after told refl
-    few fits parts.1 before.0 steps in
-    let next : Agreed id after (all_told points ++ told) =
-    steps_agree alone id ((state_behind no_line points).lines + 1) line
+    few fits newcomer parts.1 before.0 steps in
+    let stood : Stood after = by.stood in
+    let next : Agreed id after (since_came id mine told) =
+    track_agrees alone id ((state_behind no_line points).lines + 1) line
     (state_behind no_line points) after told
-    (all_told points) before.0 stood (lines_few after stood) parts.1 before.1.0 watched steps
-    (before.1.1.0 id) in
-    agrees_of stood.trace id after (all_told points ++ told) stood.stands
+    (all_told points) mine before.0 stood (lines_few after stood) parts.1 before.1.0 watched newcomer steps
+    before.1.1.0 in
+    agrees_of stood.trace id after (since_came id mine told) stood.stands
     (one_standing_of stood.trace after stood.stands)
     next
     (λ j.
-    next_never alone id j ((state_behind no_line points).lines + 1) line
+    track_never alone id j ((state_behind no_line points).lines + 1) line
     (state_behind no_line points) after told
-    (all_told points) few fits before.0 steps next (before.1.1.1 id j))
+    mine few fits before.0.stood steps next (before.1.1.1 j))
 
 -- THE LAW of a line
 pub agrees_along : SaysAlone → ConnectsBear → AgreesAlong
-agrees_along alone connects line before after told few fits steps none = record {
-  behind = λ asked points fit run behind seen watched id.
-      (let at : LineSteps ((state_behind no_line points).lines + 1) line
+agrees_along alone connects before after told few none = record {
+  behind = λ asked points line fit fits run new newcomer behind steps seen watched id.
+      (let at : TrackSteps ((state_behind no_line points).lines + 1) line
       (state_behind no_line points) after told =
-      subst (λ (s : LineState). LineSteps (s.lines + 1) line s after told) (sym behind) steps in
+      subst (λ (s : LineState). TrackSteps (s.lines + 1) line s after told) (sym behind) steps in
       let within : (state_behind no_line points).lines + 1 ≤ 1000000 =
       subst (λ (s : LineState). s.lines + 1 ≤ 1000000) (sym behind) few in
-      next_agrees alone connects line after told asked points fit fits within run at none seen
-      watched id);
+      next_agrees alone connects after told asked points line fit fits new newcomer within run at none seen watched id);
 }

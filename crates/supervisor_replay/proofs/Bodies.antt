@@ -77,11 +77,13 @@ pub record IsHere (id j : ℕ) (body : Body) (unread : List Sensed) (v : View) :
 abbrev pub takes_out : ℕ → Act → Bool
 takes_out id (acts.Removes other) = other == id
 takes_out id (acts.Replaces old new) = old == id
+takes_out id (acts.Gives other to) = other == id
 takes_out id _ = false
 
 abbrev pub brings_in : ℕ → Act → Bool
 brings_in id (acts.Inserts other) = other == id
 brings_in id (acts.Replaces old new) = new == id
+brings_in id (acts.Gets other) = other == id
 brings_in id _ = false
 
 -- ---- what is asked of the line around the machine, of a place of the board of the handover above it

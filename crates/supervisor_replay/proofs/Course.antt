@@ -133,7 +133,7 @@ use Rattle.node_core.specs.Announces.{
   start,
   announces,
 }
-use Rattle.node_core.specs.Event.{Event, Insert, Remove, Replace, event_did, Supervised}
+use Rattle.node_core.specs.Event.{Event, Gets, Gives, Insert, Remove, Replace, event_did, Supervised}
 use Rattle.node_core.specs.Supervising.{Supervision, supervision_act}
 use Rattle.node_core.specs.Own.{with_id_instead, without_id, Own, own_by, own_of, ids_of, id_of}
 use Rattle.node_core.proofs.KeptIds.{ids_behind, ids_changed, ids_instead, ids_without}
@@ -159,6 +159,8 @@ use Rattle.step_rules.specs.Causes.{
   Tells as TellsAct,
   ToIntake,
   ToOutlet,
+  hand_gets,
+  hand_gives,
   hand_inserts,
   hand_removes,
   hand_replaces,
@@ -265,7 +267,7 @@ pub data Calm (seen : Option Seen) : Own → List Act → Own → Type 0 where
   calm_asks : {own : Own} (desk : Desk) (what : Supervision)
       → Calm seen own (supervision_act desk what ∷ []) own
 
--- by hand a board is put in, taken out or replaced; anything else is calm
+-- by hand a board is put in, taken out or replaced, goes to another lane or comes from one; anything else is calm
 pub data Hands (seen : Option Seen) : Own → List Act → Own → Type 0 where
   hands_calm : {own end : Own} {told : List Act} → Calm seen own told end → Hands seen own told end
   hands_insert : {id : ℕ} {ids : List ℕ} {held taking : Option ℕ}
@@ -274,6 +276,12 @@ pub data Hands (seen : Option Seen) : Own → List Act → Own → Type 0 where
   hands_remove : {id : ℕ} {ids : List ℕ} {held taking : Option ℕ} → has_id id ids ≡ true
       → Hands seen (own_parts ids held taking) (acts.Removes id ∷ [])
       (own_parts (without_id id ids) held taking)
+  hands_give : {id to : ℕ} {ids : List ℕ} {held taking : Option ℕ} → has_id id ids ≡ true
+      → Hands seen (own_parts ids held taking) (acts.Gives id to ∷ [])
+      (own_parts (without_id id ids) held taking)
+  hands_get : {id : ℕ} {ids : List ℕ} {held taking : Option ℕ}
+      → Hands seen (own_parts ids held taking) (acts.Gets id ∷ [])
+      (own_parts (ids ++ id ∷ []) held taking)
   hands_replace : {old new : ℕ} {ids : List ℕ} {held taking : Option ℕ} → has_id old ids ≡ true
       → Hands seen (own_parts ids held taking) (acts.Replaces old new ∷ [])
       (own_parts (with_id_instead old new ids) held taking)
@@ -535,6 +543,25 @@ removes_by id body true is = record {
 }
 removes_by id body false is = meets_calm (calm_course (goes_still body))
 
+gives_by : (id to : ℕ) (body : Body) (test : Bool) → is_kept id body.kept ≡ test
+    → Meets body (if_kept test (record body { kept = without id body.kept })
+    (acts.Gives id to) body)
+gives_by id to body true is = record {
+  hands = hands_kept (without id body.kept) (id_of (held body.outlet))
+      (id_of (in_held body.intake)) (ids_without id body.kept)
+      (hands_give (sym (kept_ids id body.kept) ∙ is));
+  keeps = seen_same;
+}
+gives_by id to body false is = meets_calm (calm_course (goes_still body))
+
+gets_meets : (board : Record) (body : Body)
+    → Meets body (done (record body { kept = body.kept ++ board ∷ [] }) (acts.Gets board.id ∷ []))
+gets_meets board body = record {
+  hands = hands_kept (body.kept ++ board ∷ []) (id_of (held body.outlet))
+      (id_of (in_held body.intake)) (ids_behind body.kept board) hands_get;
+  keeps = seen_same;
+}
+
 replaces_by : (desk : Desk) (old new : ℕ) (body : Body) (test : Bool)
     → is_kept old body.kept ≡ test
     → Meets body
@@ -559,6 +586,8 @@ IsMet (Announcing starting) = ⊥
 IsMet (Meeting (Insert id barcode)) = ⊥
 IsMet (Meeting (Remove id)) = ⊥
 IsMet (Meeting (Replace old new)) = ⊥
+IsMet (Meeting (Gives id to)) = ⊥
+IsMet (Meeting (Gets board)) = ⊥
 IsMet (Meeting (Supervised what)) = ⊥
 IsMet (Meeting event) = Unit {0}
 
@@ -614,6 +643,8 @@ hand_goes : {desk : Desk} {event : Event} {body : Body} {kept : List Record} {ac
 hand_goes hand_inserts met = absurd met
 hand_goes (hand_removes is) met = absurd met
 hand_goes (hand_replaces is) met = absurd met
+hand_goes (hand_gives is) met = absurd met
+hand_goes hand_gets met = absurd met
 hand_goes (hand_changes {body = body} deed) met = changes_goes body deed
 
 goes : {desk : Desk} {cause : Cause} {body : Body} {d : Done} → Made desk cause body d
@@ -670,12 +701,16 @@ event_calm desk (Supervised what) body plain =
 event_calm desk (Insert id barcode) body plain = absurd plain
 event_calm desk (Remove id) body plain = absurd plain
 event_calm desk (Replace old new) body plain = absurd plain
+event_calm desk (Gives id to) body plain = absurd plain
+event_calm desk (Gets board) body plain = absurd plain
 event_calm desk event body plain = calm_course (goes (event_made desk event body) tt)
 
 pub event_meets : (desk : Desk) (event : Event) (body : Body)
     → Meets body (event_did desk event body)
 event_meets desk (Insert id barcode) body = inserts_meets id desk barcode body
 event_meets desk (Remove id) body = removes_by id body (is_kept id body.kept) refl
+event_meets desk (Gives id to) body = gives_by id to body (is_kept id body.kept) refl
+event_meets desk (Gets board) body = gets_meets board body
 event_meets desk (Replace old new) body =
     replaces_by desk old new body (is_kept old body.kept) refl
 event_meets desk (Supervised what) body = meets_calm (event_calm desk (Supervised what) body tt)

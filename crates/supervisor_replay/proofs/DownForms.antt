@@ -21,7 +21,6 @@ use Rattle.line_link.specs.Link.{LinkParts, after_connect, after_flow, after_spo
 use Rattle.line_link.specs.declared.link.Connected.{Connected}
 use Rattle.line_link.specs.declared.link.Connected.TheVariants as connections
 use Rattle.line_link.proofs.Coming.{coming_of_nul}
-use Rattle.line_script.specs.declared.line.ScriptLine.{ScriptLine}
 use Rattle.smema_bridge.specs.Levels.{BridgeLevels}
 use Rattle.line_report.specs.declared.happening.Happening.{Happening}
 use Rattle.node_core.specs.Desk.{Desk}
@@ -68,7 +67,7 @@ use Rattle.line_step.proofs.Opening.{steps_open}
 use Rattle.one_standing.specs.Carried.{IsFitMachine, Trace}
 use Rattle.one_standing.specs.Links.{AreWholeLinks}
 use Rattle.one_standing.specs.Stands.{Stands}
-use Rattle.one_standing.specs.Standing.{IsFitLine}
+use Rattle.one_standing.specs.Standing.{IsFitRequest}
 use Rattle.one_standing.specs.Waits.{AreWaiting}
 use Rattle.one_standing.proofs.Behind.{fit_machine}
 use Rattle.one_standing.proofs.BlameJoins.{whole_connecting}
@@ -93,9 +92,9 @@ use Rattle.supervisor_replay.proofs.Sending.{step_offers_not}
 use Rattle.line_step.specs.Tracks.{IsBeside}
 use Rattle.line_step.proofs.Beside.{beside-lane}
 use Rattle.line_step.proofs.Remarks.{unvouched_remarks}
-use Rattle.line_step.proofs.Requests.{Request, request_of}
+use Rattle.line_step.specs.Requests.{Request}
 use Rattle.line_step.proofs.Effects.{Effect, added_remarks, becomes_by, line_effect, spoil_remarks}
-use Rattle.one_standing.proofs.FitRequests.{IsFitRequest, fit_request, given_plain}
+use Rattle.one_standing.proofs.GivenPlain.{given_plain}
 use Rattle.line_step.proofs.Effects as effects
 
 pub record StaysFree (id k : ℕ) (after : LineState) (told : List Happening) : Type 0 where
@@ -918,14 +917,14 @@ spoil_free id k m side t before st waits free =
     (remarks_none (k + 1) (spoil_told m side before) (spoil_remarks m side before)) free
     (λ is on passes was. spoil_down k m side before st.links waits is on was)
 
-more_free : (is_bridge : Bool) (capacity used id k : ℕ) (before : LineState) → IsFree id k before
-    → IsFree id k (one_more is_bridge capacity used before)
-more_free is_bridge capacity used id k before free =
-    free_by before (one_more is_bridge capacity used before)
-    (more_same ear_of is_bridge capacity used before refl (k + 1))
+more_free : (lane : ℕ) (is_bridge : Bool) (capacity used id k : ℕ) (before : LineState) → IsFree id k before
+    → IsFree id k (one_more lane is_bridge capacity used before)
+more_free lane is_bridge capacity used id k before free =
+    free_by before (one_more lane is_bridge capacity used before)
+    (more_same ear_of lane is_bridge capacity used before refl (k + 1))
     (λ on passes was.
     subst (λ (l : LinkParts). DownOn id passes (node_at before (k + 1)).lane.entry_bytes l)
-    (sym (more_at is_bridge capacity used before k)) was) free
+    (sym (more_at lane is_bridge capacity used before k)) was) free
 
 effect_free : SaysAlone
     → (id k number : ℕ) (request : Request) (t : Trace) (before next : LineState)
@@ -937,11 +936,11 @@ effect_free alone id k number request t before next told few fit st waits free
     becomes_by (StaysFree id k) b
     (still_free id k before what (remarks_none (k + 1) what remarks) free)
 effect_free alone id k number request t before next told few fit st waits free
-    (effects.adds is_bridge capacity used may b) =
+    (effects.adds lane is_bridge capacity used may b) =
     becomes_by (StaysFree id k) b
-    (still_free id k (one_more is_bridge capacity used before) _
+    (still_free id k (one_more lane is_bridge capacity used before) _
     (remarks_none (k + 1) _ (added_remarks is_bridge capacity before))
-    (more_free is_bridge capacity used id k before free))
+    (more_free lane is_bridge capacity used id k before free))
 effect_free alone id k number request t before next told few fit st waits free
     (effects.steps m input given may did) =
     plain_free alone id k number m input t before next told (given_plain input given) fit few st
@@ -998,16 +997,16 @@ counted_free id k lines next a b none one =
     }
 
 pub line_free : SaysAlone
-    → (id k number : ℕ) (line : ScriptLine) (t : Trace) (before after : LineState)
+    → (id k number : ℕ) (request : Request) (t : Trace) (before after : LineState)
     (told : List Happening)
-    → number ≤ 1000000 → IsFitLine line → Stands t before → AreWaiting before
-    → LineSteps number line before after told
+    → number ≤ 1000000 → IsFitRequest request → Stands t before → AreWaiting before
+    → LineSteps number request before after told
     → IsFree id k before → StaysFree id k after told
-line_free alone id k number line t before after told few fit st waits steps free =
+line_free alone id k number request t before after told few fit st waits steps free =
     let next : LineState = steps.next in
     let one : StaysFree id k next steps.done =
-    effect_free alone id k number (request_of line) t before next steps.done few
-    (fit_request line fit) st waits free (line_effect number line before next steps.done steps.does)
+    effect_free alone id k number request t before next steps.done few
+    fit st waits free (line_effect number request before next steps.done steps.does)
     in
     subst (λ (s : LineState). StaysFree id k s told) (sym steps.after_is)
     (subst (λ (l : List Happening). StaysFree id k (record next { lines = steps.lines }) l)

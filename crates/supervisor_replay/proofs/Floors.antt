@@ -21,6 +21,7 @@ use Rattle.one_standing.proofs.ApartFloor.{counted}
 abbrev pub may_lose : ℕ → Happening → Bool
 may_lose id (happenings.Done machine (acts.Removes other)) = other == id
 may_lose id (happenings.Done machine (acts.Replaces old new)) = old == id
+may_lose id (happenings.Done machine (acts.Gives other to)) = other == id
 may_lose id (happenings.Moved gap moves.Take) = true
 may_lose id (happenings.Unseen machine side) = true
 may_lose id _ = false
@@ -32,6 +33,7 @@ may_lose_any id told = list_any (may_lose id) told
 abbrev pub may_bring : ℕ → Happening → Bool
 may_bring id (happenings.Done machine (acts.Inserts other)) = other == id
 may_bring id (happenings.Done machine (acts.Replaces old new)) = new == id
+may_bring id (happenings.Done machine (acts.Gets other)) = other == id
 may_bring id _ = false
 
 abbrev pub may_bring_any : ℕ → List Happening → Bool
@@ -85,6 +87,10 @@ stays_by x (happenings.Done machine (acts.Inserts id)) old new not gain =
     gained x (record { id = Some id }) old new gain
 stays_by x (happenings.Done machine (acts.Removes id)) old new not loss =
     lost_other x id loss.0 old new not loss.1 loss.2
+stays_by x (happenings.Done machine (acts.Gives id to)) old new not loss =
+    lost_other x id loss.0 old new not loss.1 loss.2
+stays_by x (happenings.Done machine (acts.Gets id)) old new not gain =
+    gained x (record { id = Some id }) old new gain
 stays_by x (happenings.Done machine (acts.Replaces was now)) old new not change =
     changed_other x was now old new not change
 stays_by x (happenings.Moved gap moves.Take) old new not loss =
@@ -144,6 +150,8 @@ comes_by : (x : ℕ) (happening : Happening) (old new : List Board) → may_brin
     → ChangesBoards happening old new → counted x new ≤ counted x old
 comes_by x (happenings.Done machine (acts.Inserts id)) old new not gain = gained_other x id old new not gain
 comes_by x (happenings.Done machine (acts.Removes id)) old new not loss = lost x loss.0 old new loss.2
+comes_by x (happenings.Done machine (acts.Gives id to)) old new not loss = lost x loss.0 old new loss.2
+comes_by x (happenings.Done machine (acts.Gets id)) old new not gain = gained_other x id old new not gain
 comes_by x (happenings.Done machine (acts.Replaces was now)) old new not change =
     changed x was now old new not change
 comes_by x (happenings.Moved gap moves.Take) old new not loss = lost x loss.0 old new loss.1

@@ -1,4 +1,4 @@
--- A board that is inserted is kept behind the step.
+-- A board that is inserted, or comes from another lane, is kept behind the step.
 use Rattle.std.proofs.Common.{◌≡◌, ◌∙◌, ◌++◌, ◌||◌, ◌==◌, ℕ, Bool, true, false, List, [], ◌∷◌, Option, Some, None, refl, ap, eq-eqb}
 use Rattle.std.specs.Prelude.{slice_get}
 use Rattle.line_history.proofs.OfferingWhole.{offer_back}
@@ -16,7 +16,7 @@ use Rattle.handover_out.specs.declared.input.OutInput.TheVariants as out_input
 use Rattle.handover_out.proofs.Rows.{row_is}
 use Rattle.node_core.specs.Announces.{announces, offer, offer_by, offers_now, readies_now, ready, ready_by, revoke, revoke_by, revokes_now, start_by, starts_now, unreadies_now, unready, unready_by}
 use Rattle.node_core.specs.Desk.{Desk}
-use Rattle.node_core.specs.Event.{Insert, event_did}
+use Rattle.node_core.specs.Event.{Gets, Insert, event_did}
 use Rattle.node_core.specs.Halves.{given_back, intake_row_did, outlet_row_did, settled}
 use Rattle.node_core.specs.Own.{ids_of}
 use Rattle.node_core.specs.Reads.{all_read}
@@ -136,3 +136,11 @@ inserted_kept desk unread id barcode body =
     let met = event_did desk (Insert id barcode) (all_read desk unread body).body in
     ap (λ (kept : List Record). has_id id (ids_of kept)) (announced_kept desk met.body)
     ∙ last_is id (all_read desk unread body).body.kept _ refl
+
+-- and so is one that comes from another lane
+pub got_kept : (desk : Desk) (unread : List Sensed) (board : Record) (body : Body)
+    → keeps_it board.id (plain_step desk unread (Gets board) body).body ≡ true
+got_kept desk unread board body =
+    let met = event_did desk (Gets board) (all_read desk unread body).body in
+    ap (λ (kept : List Record). has_id board.id (ids_of kept)) (announced_kept desk met.body)
+    ∙ last_is board.id (all_read desk unread body).body.kept board refl

@@ -26,7 +26,7 @@ use Rattle.line_step.specs.Reasons.{behind_own, has_neighbour, if_there, may_con
 use Rattle.line_step.specs.State.{LineState, machine_in}
 use Rattle.line_step.specs.Steps.{MachineSteps, moment_of, unread_by}
 use Rattle.line_step.specs.World.{link_at}
-use Rattle.line_step.proofs.Makers.{IsOld}
+use Rattle.line_step.specs.Made.{IsOld}
 use Rattle.one_standing.specs.Carried.{Trace}
 use Rattle.one_standing.specs.Stands.{Stands}
 use Rattle.one_standing.specs.Standing.{HasOneStanding}

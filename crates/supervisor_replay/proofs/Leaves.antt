@@ -37,7 +37,7 @@ use Rattle.node_core.specs.declared.act.Deed.TheVariants as deeds
 use Rattle.node_core.specs.declared.lane.Body.{Body}
 use Rattle.standings.specs.Marks.{is_held}
 use Rattle.supervisor_replay.proofs.Bodies.{holds_it}
-use Rattle.supervisor_replay.proofs.Course.{Calm, Hands, announced, calm_asks, calm_goes, course_none, event_meets, hands_calm, hands_insert, hands_remove, hands_replace, said_none}
+use Rattle.supervisor_replay.proofs.Course.{Calm, Hands, announced, calm_asks, calm_goes, course_none, event_meets, hands_calm, hands_get, hands_give, hands_insert, hands_remove, hands_replace, said_none}
 use Rattle.supervisor_replay.proofs.Events.{
   ExitTurn,
   exit_leaves,
@@ -87,6 +87,8 @@ hands_none : {seen : Option Seen} {own end : Own} {made : List Act} (id : ℕ)
 hands_none id (hands_calm calm) = calm_none id calm
 hands_none id hands_insert = refl
 hands_none id (hands_remove has) = refl
+hands_none id (hands_give has) = refl
+hands_none id hands_get = refl
 hands_none id (hands_replace has) = refl
 
 -- ---- what is read

@@ -21,15 +21,18 @@ use Rattle.line_step.specs.Shown.{standings_told}
 use Rattle.line_step.specs.State.{LineState, machine_in}
 use Rattle.line_step.specs.Steps.{MachineSteps, moment_of, unread_by}
 use Rattle.line_step.proofs.FloorLaws.{Goes, IsHandless, plain_of}
-use Rattle.line_step.proofs.Makers.{IsOld}
-use Rattle.one_standing.specs.Carried.{Trace}
+use Rattle.line_step.specs.Made.{IsOld}
+use Rattle.one_standing.specs.Carried.{Trace, stand_of}
+use Rattle.line_step.specs.Requests.{Request, gives}
+use Rattle.standings.specs.declared.mark.Mark.{Mark}
+use Rattle.one_standing.proofs.ApartStep.{AreNews}
 use Rattle.one_standing.specs.Facts.{HasCustodyFacts, is_taken_at}
 use Rattle.one_standing.specs.Stands.{Stands}
 use Rattle.one_standing.specs.Standing.{HasOneStanding, is_held_at, is_kept_at}
 use Rattle.one_standing.proofs.ApartFloor.{counted}
 use Rattle.one_standing.proofs.LedgerMarks.{mark_old}
-use Rattle.one_standing.proofs.MarksOf.{has_intake, has_kept, has_outlet, id_held, id_kept}
-use Rattle.supervisor_replay.specs.Replay.{IsWatched, Told, nothing_told, told_after, told_of}
+use Rattle.one_standing.proofs.MarksOf.{HasMark, has_intake, has_kept, has_outlet, id_held, id_kept}
+use Rattle.supervisor_replay.specs.Replay.{IsWatched, Told, came_in, nothing_told, told_after, told_of}
 use Rattle.supervisor_replay.proofs.Since.{left_since, since_after}
 use Rattle.supervisor_replay.proofs.Bodies.{
   brings_in,
@@ -79,6 +82,14 @@ pub record Agreed (id : ℕ) (s : LineState) (past : List Happening) : Type 0 wh
   pub holds : Holds (view_of id s) (told_of id past) (λ gap. left_since gap id past)
   pub known : IsOld 1 s.machines id ⊎ IsUnknown id past
 
+-- a board that comes from another lane: no machine has a mark of it; and if it is the one that is
+-- looked at, nothing was told of it
+abbrev pub Comes : ℕ → List Happening → LineState → List Happening → Request → Type 0
+Comes id past s done (gives machine (inputs.Gets board)) =
+    (board.id ≡ id → list_any (came_in id) done ≡ true → IsUnknown id past)
+    × ((mark : Mark) → HasMark (stand_of s) board.id mark → ⊥)
+Comes id past s done request = Unit {0}
+
 -- a line of a script, of an id
 pub record Passing (id : ℕ) (t t2 : Trace) (before next : LineState) (done past : List Happening) : Type 0 where
   pub st : Stands t before
@@ -88,6 +99,7 @@ pub record Passing (id : ℕ) (t t2 : Trace) (before next : LineState) (done pas
   pub one2 : HasOneStanding next
   pub facts2 : HasCustodyFacts next
   pub goes : Goes before next (done ++ standings_told before next)
+  pub news : AreNews t before (done ++ standings_told before next)
   pub was : Agreed id before past
   pub watched : IsWatched before
   pub watched2 : IsWatched next
@@ -311,6 +323,8 @@ handless_event : (id : ℕ) (maker : Maker) (input : Input) (words : List Word) 
 handless_event id maker (inputs.Insert barcode) words free = absurd free
 handless_event id maker (inputs.Remove other) words free = absurd free
 handless_event id maker (inputs.Replace other) words free = absurd free
+handless_event id maker (inputs.Gives other to) words free = absurd free
+handless_event id maker (inputs.Gets board) words free = absurd free
 handless_event id maker _ words free = (λ is. elim is [ ], λ is. elim is [ ])
 
 pub handless_acts : (id number j : ℕ) (input : Input) (start next : LineState) (done : List Happening)

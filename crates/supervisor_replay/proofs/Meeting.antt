@@ -112,6 +112,8 @@ use Rattle.supervisor_replay.proofs.Course.{
   course_settles,
   event_meets,
   hands_calm,
+  hands_get,
+  hands_give,
   hands_insert,
   hands_remove,
   hands_replace,
@@ -515,6 +517,47 @@ remove_met id j desk other ids mine taking there different false is =
     (says_false (departs (j + 1) ByHand) is (remove_says id j other desk)))
     (or_from (other == id) false is refl) refl
 
+-- one goes to another lane, or comes from one: of that nothing is told
+give_says : (id j other to : ℕ)
+    → Says id j (acts.Gives other to ∷ [])
+    (λ told. if other == id then departs (j + 1) ByHand told else told)
+give_says id j other to = record { told = λ told. refl; left = λ gap left. refl }
+
+give_met : {seen : Option Seen} (id j other to : ℕ) (ids : List ℕ)
+    (mine taking : Option ℕ) → has_id other ids ≡ true
+    → are_different (all_of (own_parts ids mine taking)) ≡ true → (test : Bool)
+    → (other == id) ≡ test
+    → Met id j seen (own_parts ids mine taking) (own_parts (without_id other ids) mine taking)
+    (acts.Gives other to ∷ []) (acts.Gives other to ∷ [])
+give_met id j other to ids mine taking there different true is =
+    let kept : has_id id ids ≡ true = same_has other id ids is there in
+    goes_out (or_left (other == id) false is) kept
+    (or_from (has_id id (without_id other ids)) (is_held id mine)
+    (gone_id id other ids is (different_kept mine ids (one_of taking) different))
+    (kept_alone id mine ids (one_of taking) different kept)) refl
+    (says_true (departs (j + 1) ByHand) is (give_says id j other to))
+give_met id j other to ids mine taking there different false is =
+    goes_so (fare_so (ap (λ (b : Bool). b || is_held id mine) (stays_id id other ids is)) refl
+    (says_false (departs (j + 1) ByHand) is (give_says id j other to)))
+    (or_from (other == id) false is refl) refl
+
+get_says : (id j other : ℕ)
+    → Says id j (acts.Gets other ∷ [])
+    (λ told. if other == id then record told { place = At (j + 1) } else told)
+get_says id j other = record { told = λ told. refl; left = λ gap left. refl }
+
+get_met : {seen : Option Seen} (id j other : ℕ) (ids : List ℕ)
+    (mine taking : Option ℕ) (test : Bool) → (other == id) ≡ test
+    → Met id j seen (own_parts ids mine taking) (own_parts (ids ++ other ∷ []) mine taking)
+    (acts.Gets other ∷ []) (acts.Gets other ∷ [])
+get_met id j other ids mine taking true is =
+    comes_in (or_left (other == id) false is) (last_is id other ids is) refl
+    (says_true (λ told. record told { place = At (j + 1) }) is (get_says id j other))
+get_met id j other ids mine taking false is =
+    goes_so (fare_so (ap (λ (b : Bool). b || is_held id mine) (last_not id other ids is)) refl
+    (says_false (λ told. record told { place = At (j + 1) }) is (get_says id j other)))
+    refl (or_from (other == id) false is refl)
+
 -- one is replaced by another
 abbrev replacing : Desk → ℕ → ℕ → List Act
 replacing desk old new =
@@ -586,6 +629,12 @@ hands_met id j desk different apart
 hands_met id j desk different apart
     (hands_remove {id = other} {ids = ids} {held = mine} {taking = taking} there) =
     remove_met id j desk other ids mine taking there different (other == id) refl
+hands_met id j desk different apart
+    (hands_give {id = other} {to = to} {ids = ids} {held = mine} {taking = taking} there) =
+    give_met id j other to ids mine taking there different (other == id) refl
+hands_met id j desk different apart
+    (hands_get {id = other} {ids = ids} {held = mine} {taking = taking}) =
+    get_met id j other ids mine taking (other == id) refl
 hands_met id j desk different apart
     (hands_replace {old = old} {new = new} {ids = ids} {held = mine} {taking = taking} there) =
     replace_met id j desk old new ids mine taking there different (old == id) (new == id) refl refl

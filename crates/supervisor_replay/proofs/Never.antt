@@ -6,7 +6,6 @@ use Rattle.std.specs.List.{list_any}
 use Rattle.std.proofs.lemmas.Bool.{false≢true, or_parts, or_left, or_right}
 use Rattle.std.proofs.lemmas.List.Folds.{list_any-append}
 use mathlib.Core.Bool.{or-false}
-use Rattle.line_script.specs.declared.line.ScriptLine.{ScriptLine}
 use Rattle.line_report.specs.declared.happening.Happening.{Happening}
 use Rattle.line_report.specs.declared.happening.Happening.TheVariants as happenings
 use Rattle.node_core.specs.declared.act.Act.{Act}
@@ -17,8 +16,9 @@ use Rattle.line_step.specs.Lines.{LineSteps}
 use Rattle.line_step.specs.Numbered.{node_at}
 use Rattle.line_step.specs.State.{LineState}
 use Rattle.line_step.specs.Steps.{unread_by}
+use Rattle.line_step.specs.Requests.{Request}
 use Rattle.one_standing.specs.Carried.{Trace}
-use Rattle.one_standing.specs.Standing.{IsFitLine}
+use Rattle.one_standing.specs.Standing.{IsFitRequest}
 use Rattle.one_standing.proofs.Carrying.{SaysAlone}
 use Rattle.one_standing.proofs.LineRun.{Stood}
 use Rattle.line_history.proofs.View.{Turn, done_act, done_by, has_stepped, is_still, line_turn, told_of_act, undriven}
@@ -203,18 +203,18 @@ free_never id j after told past stays leaves was gone =
       by_left true is = refl
       by_left false is = leaves is
 
-pub never_step : SaysAlone → (id j number : ℕ) (line : ScriptLine) (before after : LineState)
-    (told past : List Happening) → number ≤ 1000000 → IsFitLine line → Stood before
-    → LineSteps number line before after told
+pub never_step : SaysAlone → (id j number : ℕ) (request : Request) (before after : LineState)
+    (told past : List Happening) → number ≤ 1000000 → IsFitRequest request → Stood before
+    → LineSteps number request before after told
     → (left_since (j + 1) id (past ++ told) ≡ true
     → keeps_it id (node_at after (j + 1)).lane.body ≡ false)
     → Never id j before past → Never id j after (past ++ told)
-never_step alone id j number line before after told past few fit was steps gone never =
+never_step alone id j number request before after told past few fit was steps gone never =
     by_left (left_since (j + 1) id past) refl where
       stays : IsFree id (j + 1) before → StaysFree id (j + 1) after told
       stays free =
           line_free alone id
-          (j + 1) number line was.trace before after told few fit was.stands was.waits steps free
+          (j + 1) number request was.trace before after told few fit was.stands was.waits steps free
 
       -- it has neither left before nor leaves now
       neither : left_since (j + 1) id past ≡ false
@@ -241,7 +241,7 @@ never_step alone id j number line before after told past few fit was steps gone 
       by_told not true leaves =
           let held : holds_it id (node_at before (j + 1)).lane.body ≡ true =
           turn_held was.trace id j before after told
-          (line_turn alone was.trace number line before after told was.stands steps j) leaves
+          (line_turn alone was.trace number request before after told was.stands steps j) leaves
           in
           free_never id j after told past
           (stays (held_free was.trace before (j + 1) id was.stands held)) (λ none. leaves)

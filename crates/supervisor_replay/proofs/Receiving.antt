@@ -47,7 +47,7 @@ use Rattle.node_core.specs.Bridge.{failed_front, fails, sets_level, tells_level}
 use Rattle.node_core.specs.Connect.{if_open, opens, shuts_down, ticks}
 use Rattle.node_core.specs.Desk.{Desk}
 use Rattle.node_core.specs.Done.{Done, and_then, behind, done, stays}
-use Rattle.node_core.specs.Event.{Accepted, Connect, Event, Fault, Forecast, Level, Mark, Sub, Nothing, Notice, Query, Remove, Replace, Second, Shutdown, Supervised, Tick, Will, Words, event_did}
+use Rattle.node_core.specs.Event.{Accepted, Connect, Event, Fault, Forecast, Gives, Level, Mark, Sub, Nothing, Notice, Query, Remove, Replace, Second, Shutdown, Supervised, Tick, Will, Words, event_did}
 use Rattle.node_core.specs.Halves.{behind_opening, ended, half_closed, intake_row_did, opening_board, outlet_row_did}
 use Rattle.node_core.specs.Hears.{exit_took, exit_word, hears, intake_took, outlet_took, passed, rowed, taken}
 use Rattle.node_core.specs.Information.{forecasts}
@@ -946,6 +946,9 @@ event_goes id desk (Level line on) body messages oldest o all =
 event_goes id desk (Remove old) body messages oldest o all =
     goes_calm body (event_did desk (Remove old) body)
     (hand_calm (is_kept old body.kept) body _ (acts.Removes old) refl) o all
+event_goes id desk (Gives old to) body messages oldest o all =
+    goes_calm body (event_did desk (Gives old to) body)
+    (hand_calm (is_kept old body.kept) body _ (acts.Gives old to) refl) o all
 event_goes id desk (Replace old new) body messages oldest o all =
     goes_calm body (event_did desk (Replace old new) body)
     (hand_calm (is_kept old body.kept) body _ (acts.Replaces old new) refl) o all

@@ -7,7 +7,6 @@ use Rattle.std.specs.List.{list_any}
 use Rattle.std.proofs.lemmas.Bool.{false≢true}
 use Rattle.line_base.specs.declared.states.Side.{Side}
 use Rattle.line_link.specs.Link.{after_flow, after_spoil, cut}
-use Rattle.line_script.specs.declared.line.ScriptLine.{ScriptLine}
 use Rattle.line_world.specs.FloorPlan.{AtMachine, FloorPlan, empty_machine, machine_at}
 use Rattle.node_core.specs.declared.input.Input.{Input}
 use Rattle.node_core.specs.declared.input.Input.TheVariants as inputs
@@ -40,11 +39,13 @@ use Rattle.supervisor_replay.proofs.Bodies.{
 use Rattle.supervisor_replay.proofs.Floors.{comes_not, may_bring, may_lose, stays_there}
 use Rattle.supervisor_replay.proofs.Hands.{brings_none, loses_none, with_standings}
 use Rattle.supervisor_replay.proofs.Joined.{connect_line}
-use Rattle.supervisor_replay.proofs.Lines.{Agreed, Passing, moved_agrees, still_agrees}
+use Rattle.supervisor_replay.proofs.Lines.{Agreed, Comes, Passing, moved_agrees, still_agrees}
 use Rattle.supervisor_replay.proofs.Moved.{moves_move}
 use Rattle.supervisor_replay.proofs.Sights.{view_of}
 use Rattle.supervisor_replay.proofs.Silent.{IsSilent, both_silent, no_act_silent, none_silent}
 use Rattle.supervisor_replay.proofs.Turns.{
+  get_line,
+  give_line,
   handless_line,
   insert_line,
   remove_line,
@@ -54,7 +55,8 @@ use Rattle.supervisor_replay.proofs.Turns.{
 }
 use Rattle.supervisor_replay.proofs.Views.{IsSame}
 use Rattle.line_step.proofs.Remarks.{IsRemark, Passes, all_pass}
-use Rattle.line_step.proofs.Requests.{Request, added_told, may_get, request_of}
+use Rattle.line_step.specs.Requests.{Request, added_told, may_get}
+use Rattle.line_step.specs.Requests as requests
 use Rattle.line_step.proofs.Effects.{Effect, added_remarks, done_move, line_effect, spoil_remarks}
 use Rattle.line_step.proofs.Effects as effects
 
@@ -128,17 +130,17 @@ more_default A [] d (suc place) = refl
 more_default A (x ∷ xs) d zero = refl
 more_default A (x ∷ xs) d (suc place) = more_default A xs d place
 
-more_unread : (is_bridge : Bool) (capacity used : ℕ) (s : LineState) (k : ℕ)
-    → (machine_at (one_more is_bridge capacity used s).world.floor k).unread ≡ (machine_at s.world.floor k).unread
-more_unread is_bridge capacity used s k =
+more_unread : (lane : ℕ) (is_bridge : Bool) (capacity used : ℕ) (s : LineState) (k : ℕ)
+    → (machine_at (one_more lane is_bridge capacity used s).world.floor k).unread ≡ (machine_at s.world.floor k).unread
+more_unread lane is_bridge capacity used s k =
     ap (λ (a : AtMachine). (if nat_lt 0 k then a else empty_machine).unread)
     (more_default AtMachine s.world.floor.machines empty_machine (k - 1))
 
-same_more : (is_bridge : Bool) (capacity used : ℕ) (s : LineState)
-    → SameMachines s (one_more is_bridge capacity used s)
-same_more is_bridge capacity used s = record {
-  bodies = λ k. more_body is_bridge capacity used s k (same_or_not k (length s.machines + 1));
-  unread = more_unread is_bridge capacity used s;
+same_more : (lane : ℕ) (is_bridge : Bool) (capacity used : ℕ) (s : LineState)
+    → SameMachines s (one_more lane is_bridge capacity used s)
+same_more lane is_bridge capacity used s = record {
+  bodies = λ k. more_body lane is_bridge capacity used s k (same_or_not k (length s.machines + 1));
+  unread = more_unread lane is_bridge capacity used s;
 }
 
 plain_one : (happening : Happening) → IsSilent (happening ∷ [])
@@ -204,52 +206,56 @@ remarks_plain = record {
 -- ---- each effect
 
 given_line : (id : ℕ) (t t2 : Trace) (number machine : ℕ) (input : Input) (before next : LineState)
-    (done past : List Happening) → may_get machine input before ≡ may_do
+    (done past : List Happening) → Comes id past before done (requests.gives machine input) → may_get machine input before ≡ may_do
     → MachineSteps number machine input before next done → Keeps id t t2 before next done past
-given_line id t t2 number machine (inputs.Insert barcode) before next done past may did p =
+given_line id t t2 number machine (inputs.Gives old to) before next done past comes may did p =
+    give_line id number machine old to t t2 before next done past p may did
+given_line id t t2 number machine (inputs.Gets board) before next done past comes may did p =
+    get_line id number machine board t t2 before next done past p comes.0 comes.1 did
+given_line id t t2 number machine (inputs.Insert barcode) before next done past comes may did p =
     insert_line id number machine barcode t t2 before next done past p did
-given_line id t t2 number machine (inputs.Remove old) before next done past may did p =
+given_line id t t2 number machine (inputs.Remove old) before next done past comes may did p =
     remove_line id number machine old t t2 before next done past p may did
-given_line id t t2 number machine (inputs.Replace old) before next done past may did p =
+given_line id t t2 number machine (inputs.Replace old) before next done past comes may did p =
     replace_line id number machine old t t2 before next done past p may did
-given_line id t t2 number machine input before next done past may did p =
+given_line id t t2 number machine input before next done past comes may did p =
     handless_line id number machine input t t2 before before next done past p (same_line before) p.st.ids tt did
 
 effect_agrees : (id : ℕ) (t t2 : Trace) (number : ℕ) (request : Request) (before next : LineState)
-    (done past : List Happening) → tells_lie done ≡ false → Effect number before next done request
+    (done past : List Happening) → Comes id past before done request → tells_lie done ≡ false → Effect number before next done request
     → Keeps id t t2 before next done past
-effect_agrees id t t2 number request before next done past honest (effects.rests _ what remarks b) p =
+effect_agrees id t t2 number request before next done past comes honest (effects.rests _ what remarks b) p =
     quiet_line id t t2 before before next what done past p b (all_pass what remarks_plain remarks) (same_before before)
-effect_agrees id t t2 number request before next done past honest (effects.adds is_bridge capacity used may b) p =
-    quiet_line id t t2 before (one_more is_bridge capacity used before) next (added_told is_bridge capacity before) done past
+effect_agrees id t t2 number request before next done past comes honest (effects.adds lane is_bridge capacity used may b) p =
+    quiet_line id t t2 before (one_more lane is_bridge capacity used before) next (added_told is_bridge capacity before) done past
     p b (all_pass (added_told is_bridge capacity before) remarks_plain (added_remarks is_bridge capacity before))
-    (same_more is_bridge capacity used before)
-effect_agrees id t t2 number request before next done past honest (effects.steps machine input given may did) p =
-    given_line id t t2 number machine input before next done past may did p
-effect_agrees id t t2 number request before next done past honest (effects.connects machine may did) p =
+    (same_more lane is_bridge capacity used before)
+effect_agrees id t t2 number request before next done past comes honest (effects.steps machine input given may did) p =
+    given_line id t t2 number machine input before next done past comes may did p
+effect_agrees id t t2 number request before next done past comes honest (effects.connects machine may did) p =
     connect_line id number machine t t2 before next done past p may did
-effect_agrees id t t2 number request before next done past honest (effects.flows machine side count may did) p =
+effect_agrees id t t2 number request before next done past comes honest (effects.flows machine side count may did) p =
     flow_line id t t2 number machine side count before next done past did p
-effect_agrees id t t2 number request before next done past honest (effects.cuts gap may b) p =
+effect_agrees id t t2 number request before next done past comes honest (effects.cuts gap may b) p =
     quiet_line id t t2 before (cut_in gap before) next (happenings.Cut gap ∷ []) done past p b (remark_plain (happenings.Cut gap) tt)
     (same_links before (with_link gap (cut (link_at gap before.world)) before.world)
     (floor_stays gap (cut (link_at gap before.world)) before.world))
-effect_agrees id t t2 number request before next done past honest (effects.spoils machine side may b) p =
+effect_agrees id t t2 number request before next done past comes honest (effects.spoils machine side may b) p =
     let link = link_of machine side in
     let parts = after_spoil (end_of side) (link_at link before.world) in
     quiet_line id t t2 before (spoiled machine side before) next (spoil_told machine side before) done past p b
     (all_pass (spoil_told machine side before) remarks_plain (spoil_remarks machine side before))
     (same_links before (with_link link parts before.world) (floor_stays link parts before.world))
-effect_agrees id t t2 number request before next done past honest (effects.moves gap step floor is b) p =
+effect_agrees id t t2 number request before next done past comes honest (effects.moves gap step floor is b) p =
     moved_agrees id t t2 before next done past p
     (subst (λ (ts : List Happening). IsSilent ts) (sym b.told_is) (no_act_silent (happenings.Moved gap step) tt))
     (moves_move t id gap step before next done p.st p.facts (done_move before is b))
-effect_agrees id t t2 number request before next done past honest (effects.lies machine sensed may b) p =
+effect_agrees id t t2 number request before next done past comes honest (effects.lies machine sensed may b) p =
     no_lie done honest (happenings.Lie machine sensed) (unvouched_told before.unvouched) b.told_is refl
-effect_agrees id t t2 number request before next done past honest (effects.unsees machine side may b) p =
+effect_agrees id t t2 number request before next done past comes honest (effects.unsees machine side may b) p =
     no_lie done honest (happenings.Unseen machine side) (unvouched_told before.unvouched) b.told_is refl
 
-pub does_agree : (id : ℕ) (t t2 : Trace) (number : ℕ) (line : ScriptLine) (before next : LineState) (done past : List Happening)
-    → tells_lie done ≡ false → LineDoes number line before next done → Keeps id t t2 before next done past
-does_agree id t t2 number line before next done past honest does =
-    effect_agrees id t t2 number (request_of line) before next done past honest (line_effect number line before next done does)
+pub does_agree : (id : ℕ) (t t2 : Trace) (number : ℕ) (request : Request) (before next : LineState) (done past : List Happening)
+    → Comes id past before done request → tells_lie done ≡ false → LineDoes number request before next done → Keeps id t t2 before next done past
+does_agree id t t2 number request before next done past comes honest does =
+    effect_agrees id t t2 number request before next done past comes honest (line_effect number request before next done does)

@@ -100,6 +100,8 @@ use Rattle.supervisor_replay.proofs.Course.{
   event_calm,
   event_meets,
   hands_calm,
+  hands_get,
+  hands_give,
   hands_insert,
   hands_remove,
   hands_replace,
@@ -286,6 +288,10 @@ hands_nothing (hands_insert {id = id} {ids = ids}) none unkept =
     absurd (false≢true (sym (unkept id) ∙ last_is id id ids (eq-eqb id id refl)))
 hands_nothing (hands_remove {id = id} found) none unkept =
     absurd (false≢true (sym (none id).0 ∙ found))
+hands_nothing (hands_give {id = id} found) none unkept =
+    absurd (false≢true (sym (none id).0 ∙ found))
+hands_nothing (hands_get {id = id} {ids = ids}) none unkept =
+    absurd (false≢true (sym (unkept id) ∙ last_is id id ids (eq-eqb id id refl)))
 hands_nothing (hands_replace {old = old} found) none unkept =
     absurd (false≢true (sym (none old).0 ∙ found))
 

@@ -93,6 +93,8 @@ is_quiet (acts.Deed deed) = is_quiet_deed deed
 is_quiet (acts.Inserts id) = false
 is_quiet (acts.Removes id) = false
 is_quiet (acts.Replaces old new) = false
+is_quiet (acts.Gives id to) = false
+is_quiet (acts.Gets id) = false
 is_quiet (acts.Tells message) = false
 is_quiet (acts.Sets (settings.Supervise on)) = false
 is_quiet _ = true
@@ -123,6 +125,8 @@ quiet_watched watch _ is = refl
 quiet_by : (id machine : ℕ) (act : Act) (told : Told) → is_quiet act ≡ true
     → with_happening id (happenings.Done machine act) told ≡ told
 quiet_by id machine (acts.Tells message) told is = absurd (false≢true is)
+quiet_by id machine (acts.Gives other to) told is = absurd (false≢true is)
+quiet_by id machine (acts.Gets other) told is = absurd (false≢true is)
 quiet_by id machine _ told is = refl
 
 quiet_gap : (gap id machine : ℕ) (act : Act) (left : Bool) → is_quiet act ≡ true
@@ -134,11 +138,13 @@ quiet_gap gap id machine _ left is = refl
 quiet_hand_out : (id : ℕ) (act : Act) → is_quiet act ≡ true → takes_out id act ≡ false
 quiet_hand_out id (acts.Removes other) is = absurd (false≢true is)
 quiet_hand_out id (acts.Replaces old new) is = absurd (false≢true is)
+quiet_hand_out id (acts.Gives other to) is = absurd (false≢true is)
 quiet_hand_out id _ is = refl
 
 quiet_hand_in : (id : ℕ) (act : Act) → is_quiet act ≡ true → brings_in id act ≡ false
 quiet_hand_in id (acts.Inserts other) is = absurd (false≢true is)
 quiet_hand_in id (acts.Replaces old new) is = absurd (false≢true is)
+quiet_hand_in id (acts.Gets other) is = absurd (false≢true is)
 quiet_hand_in id _ is = refl
 
 -- ---- many of them

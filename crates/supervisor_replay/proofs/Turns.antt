@@ -1,5 +1,5 @@
 -- The lines in which one machine makes a step: of no hand, and of a hand.
-use Rattle.std.proofs.Common.{◌≡◌, ◌≢◌, ◌≤◌, ◌∙◌, ◌++◌, ◌+◌, ◌==◌, ◌||◌, ℕ, Bool, true, false, List, Option, Some, Result, Ok, Err, inl, inr, refl, sym, ap, arith, not}
+use Rattle.std.proofs.Common.{◌≡◌, ◌≢◌, ◌≤◌, ◌∙◌, ◌++◌, ◌+◌, ◌==◌, ◌||◌, ℕ, Bool, true, false, List, Option, Some, Result, Ok, Err, inl, inr, refl, subst, sym, ap, arith, not}
 use Rattle.std.specs.List.{list_any}
 use Rattle.std.proofs.lemmas.Bool.{false≢true, false_from_ne_true}
 use Rattle.one_standing.proofs.RestLine.{node_there}
@@ -10,7 +10,7 @@ use Rattle.board_record.specs.declared.record.Record.{Record}
 use Rattle.board_record.specs.declared.sensed.Sensed.{Sensed}
 use Rattle.line_world.specs.declared.board.Board.{Board}
 use Rattle.node_core.specs.Boards.{is_kept}
-use Rattle.node_core.specs.Event.{Event, Insert, Remove, Replace, event_of, with_new}
+use Rattle.node_core.specs.Event.{Event, Gets, Gives, Insert, Remove, Replace, event_of, with_new}
 use Rattle.node_core.specs.May as own
 use Rattle.node_core.specs.May.{may_of}
 use Rattle.node_core.specs.declared.input.No.{No}
@@ -27,7 +27,7 @@ use Rattle.line_step.specs.Shown.{standings_told}
 use Rattle.line_step.specs.State.{LineState, machine_in}
 use Rattle.line_step.specs.Steps.{MachineSteps, moment_of, unread_by}
 use Rattle.line_step.proofs.FloorLaws.{Holds as FloorHolds, IsHandless, plain_of}
-use Rattle.line_step.proofs.Makers.{IsOld}
+use Rattle.line_step.specs.Made.{IsOld}
 use Rattle.line_step.proofs.Numbers.{machine_set_own}
 use Rattle.one_standing.specs.Carried.{Trace}
 use Rattle.one_standing.specs.Places.{at_machine, lies_at}
@@ -35,20 +35,30 @@ use Rattle.one_standing.proofs.ApartFloor.{counted}
 use Rattle.one_standing.proofs.ApartHands.{step_still}
 use Rattle.one_standing.proofs.ApartStep.{
   Parted,
+  all_lost_count,
   apart_removed,
   apart_replaced,
+  gives_loses,
   gone_count,
   grown,
 }
 use Rattle.one_standing.proofs.LedgerWalk.{kept_ids}
 use Rattle.one_standing.proofs.LineForms.{numbered}
-use Rattle.line_step.proofs.Getting.{own_first, there_may}
-use Rattle.supervisor_replay.specs.Replay.{IsWatched, Told, nothing_told, told_of}
+use Rattle.line_step.proofs.Getting.{gives_can, own_first, there_may}
+use Rattle.line_step.specs.Requests.{may_get}
+use Rattle.standings.specs.declared.mark.Mark.{Mark}
+use Rattle.one_standing.specs.Carried.{stand_of}
+use Rattle.one_standing.proofs.ApartFloor.{lies_on_floor}
+use Rattle.one_standing.proofs.MarksOf.{HasMark, has_intake, has_kept, has_outlet, id_held, id_kept}
+use Rattle.step_rules.specs.Acts.{OfEvent}
+use Rattle.node_core.specs.Desk.{Desk}
+use Rattle.node_core.specs.Reads.{all_read}
+use Rattle.supervisor_replay.specs.Replay.{IsWatched, Told, came_in, nothing_told, told_of}
 use Rattle.supervisor_replay.proofs.Since.{left_since}
 use Rattle.supervisor_replay.proofs.Bodies.{brings_in, holds_it, keeps_it, takes_it, takes_out}
 use Rattle.supervisor_replay.proofs.Floors.{comes_not, may_bring, may_lose, stays_there}
-use Rattle.supervisor_replay.proofs.Hands.{BringsIn, TakesOut, brings_none, in_inserted, ins_are, is_removed, is_replaced, looks_brought, looks_lost, loses_none, made_first, out_before, out_removed, out_replaced, outs_are, step_any, step_ins, step_makes, step_out, step_outs, with_standings}
-use Rattle.supervisor_replay.proofs.Inserted.{inserted_kept}
+use Rattle.supervisor_replay.proofs.Hands.{BringsIn, GetsNone, TakesOut, brings_none, got_told, in_got, in_inserted, ins_are, is_given, is_removed, is_replaced, looks_brought, looks_lost, loses_none, made_first, out_before, out_given, out_removed, out_replaced, outs_are, step_any, step_ins, step_makes, step_out, step_outs, with_standings}
+use Rattle.supervisor_replay.proofs.Inserted.{got_kept, inserted_kept}
 use Rattle.supervisor_replay.proofs.Lines.{
   Agreed,
   HandFacts,
@@ -61,7 +71,7 @@ use Rattle.supervisor_replay.proofs.Lines.{
   seen_by,
 }
 use Rattle.supervisor_replay.proofs.Sights.{view_of}
-use Rattle.supervisor_replay.proofs.Stepped.{IsSeen, is_watched, own_step}
+use Rattle.supervisor_replay.proofs.Stepped.{IsMarked, IsSeen, is_watched, own_step}
 
 -- ---- of no hand
 
@@ -121,16 +131,17 @@ out_kept id number j input before next done steps kept is =
 -- nothing is known of what comes by hand
 new_unknown : (id number j : ℕ) (input : Input) (t t2 : Trace) (before next : LineState) (done past : List Happening)
     → Passing id t t2 before next done past → (steps : MachineSteps number (j + 1) input before next done)
+    → OfEvent (GetsNone id) (desk_of steps.node (moment_of number)) (event_of steps.node.maker input steps.steps.lane.words)
     → list_any (brings_in id) (plain_of number (j + 1) input before next done steps) ≡ true
     → (told_of id past ≡ nothing_told) × (((gap : ℕ) → left_since gap id past ≡ false)
     × (((i : ℕ) → (view_of id before).kept i ≡ false)
     × (((i : ℕ) → (view_of id before).held i ≡ false)
     × ((i : ℕ) → (view_of id before).taken i ≡ false))))
-new_unknown id number j input t t2 before next done past p steps is =
+new_unknown id number j input t t2 before next done past p steps own is =
     let P : ℕ → Type 0 = λ made. (other : ℕ) → IsOld 1 before.machines other → other ≢ made in
     let fresh : P id =
     step_makes id number (j + 1) input before next done P steps
-    (made_first done (standings_told before next) P p.goes.fresh) is in
+    (made_first done (standings_told before next) P p.goes.fresh) own is in
     let never : IsOld 1 before.machines id → ⊥ = λ old. fresh id old refl in
     let unknown : IsUnknown id past = elim p.was.known [ inl old ↦ absurd (never old) | inr un ↦ un ] in (
       unknown.told,
@@ -159,12 +170,19 @@ out_off id number j input t t2 before next done past p steps kept is =
     let parted : Parted t before = record { apart = p.st.keeps.apart; olds = p.st.olds } in
     let none : counted id (boards_of next) ≡ 0 =
     elim (out_before (standings_told before next) (step_out id number (j + 1) input before next done steps is)) [
-      | is_removed told ↦ gone_count t3 next (j + 1) id
-          (apart_removed t t3 before next all (j + 1) id (at_machine (j + 1)) p.st.ids p.goes told (lies_at here)
-          (λ k y. refl) parted) (own_gone (j + 1) id t.gone)
-      | is_replaced new told ↦ gone_count t3 next (j + 1) id
-          (apart_replaced t t3 before next all (j + 1) id new (at_machine (j + 1)) p.st.ids p.goes told (lies_at here)
-          (λ k y. refl) parted) (own_gone (j + 1) id t.gone)
+      | is_removed told ↦
+          (let then = apart_removed t t3 before next all (j + 1) id (at_machine (j + 1)) p.st.ids p.goes p.news told (lies_at here)
+          (λ k y. refl) parted in
+          gone_count t3 next (j + 1) id (record { apart = then.apart; olds = then.olds }) (own_gone (j + 1) id t.gone))
+      | is_replaced new told ↦
+          (let then = apart_replaced t t3 before next all (j + 1) id new (at_machine (j + 1)) p.st.ids p.goes p.news told (lies_at here)
+          (λ k y. refl) parted in
+          gone_count t3 next (j + 1) id (record { apart = then.apart; olds = then.olds }) (own_gone (j + 1) id t.gone))
+      | is_given to told ↦
+          (let some = lies_on_floor t before id (at_machine (j + 1)) p.st.ids.whole (lies_at here) in
+          let fewer = all_lost_count told id (boards_of before) (boards_of next) (gives_loses (j + 1) id to) p.goes.change (p.news.lies id some) in
+          let most = p.st.ids.differ.once id in
+          omega (arith, fewer, most))
     ] in
     ap (λ (n : ℕ). n == 0) none
 
@@ -223,8 +241,13 @@ hand_line : (id number j : ℕ) (input : Input) (t t2 : Trace) (before next : Li
     → is_kept old steps.node.lane.body.kept ≡ true)
     → (list_any (brings_in id) (plain_of number (j + 1) input before next done steps) ≡ true
     → steps.node.supervised ≡ true)
+    → (list_any (brings_in id) (plain_of number (j + 1) input before next done steps) ≡ true
+    → (told_of id past ≡ nothing_told) × (((gap : ℕ) → left_since gap id past ≡ false)
+    × (((i : ℕ) → (view_of id before).kept i ≡ false)
+    × (((i : ℕ) → (view_of id before).held i ≡ false)
+    × ((i : ℕ) → (view_of id before).taken i ≡ false)))))
     → Agreed id next (past ++ done)
-hand_line id number j input t t2 before next done past p steps kept brought =
+hand_line id number j input t t2 before next done past p steps kept brought new =
     let mine = own_step number j input before next done steps in
     let hand = out_kept id number j input before next done steps kept in
     let watched : list_any (takes_out id) (plain_of number (j + 1) input before next done steps) ≡ true
@@ -234,18 +257,23 @@ hand_line id number j input t t2 before next done past p steps kept brought =
     one_step id number j input t t2 before before next done past p (same_line before) steps (record {
       seen = hand_seen id number j input t t2 before next done past p steps watched brought steps.node.supervised refl;
       hand = hand;
-      new = new_unknown id number j input t t2 before next done past p steps;
+      new = new;
       out = λ is. out_off id number j input t t2 before next done past p steps (hand is) is;
       still = untouched id number j input t t2 before next done past p steps;
     })
 
--- ---- the three hands
+-- ---- the hands
 
 -- an insertion takes none out
 insert_out : (old : ℕ) (barcode : Option (List ℕ)) (found : Result ℕ IdsUsedUp) {X : Type 0}
     → TakesOut old (with_new found (λ id. Insert id barcode)) → X
 insert_out old barcode (Ok id) out = elim out [ ]
 insert_out old barcode (Err why) out = elim out [ ]
+
+insert_gets : (id : ℕ) (barcode : Option (List ℕ)) (desk : Desk) (found : Result ℕ IdsUsedUp)
+    → OfEvent (GetsNone id) desk (with_new found (λ new. Insert new barcode))
+insert_gets id barcode desk (Ok new) = refl
+insert_gets id barcode desk (Err why) = tt
 
 insert_event : (id : ℕ) (barcode : Option (List ℕ)) (found : Result ℕ IdsUsedUp)
     → BringsIn id (with_new found (λ new. Insert new barcode))
@@ -261,7 +289,9 @@ insert_line id number machine barcode t t2 before next done past p steps =
     machine before steps.node steps.there (λ j own.
     hand_line id number j (inputs.Insert barcode) t t2 before next done past p own
     (λ old out. insert_out old barcode (next_id own.node.maker) out)
-    (λ is. inserted_watched id number j barcode before next done own p.watched2 is)) steps where
+    (λ is. inserted_watched id number j barcode before next done own p.watched2 is)
+    (new_unknown id number j (inputs.Insert barcode) t t2 before next done past p own
+    (insert_gets id barcode (desk_of own.node (moment_of number)) (next_id own.node.maker)))) steps where
       inserted_watched : (id number j : ℕ) (barcode : Option (List ℕ)) (before next : LineState) (done : List Happening)
           → (steps : MachineSteps number (j + 1) (inputs.Insert barcode) before next done) → IsWatched next
           → list_any (brings_in id) (plain_of number (j + 1) (inputs.Insert barcode) before next done steps) ≡ true
@@ -326,6 +356,8 @@ remove_line id number machine old t t2 before next done past p may steps =
     (λ other out. remove_out other old own.node.lane.body.kept
     (ap (λ (n : NodeState). is_kept old n.lane.body.kept) same ∙ kept) out)
     (λ is. remove_in id old (ins_are id (desk_of own.node (moment_of number)) (Remove old) _
+    (sym (step_ins id (desk_of own.node (moment_of number)) (unread_by (j + 1) before.world) (Remove old) own.node.lane.body) ∙ is)))
+    (λ is. remove_in id old (ins_are id (desk_of own.node (moment_of number)) (Remove old) _
     (sym (step_ins id (desk_of own.node (moment_of number)) (unread_by (j + 1) before.world) (Remove old) own.node.lane.body) ∙ is))))
     (removal_kept machine old before steps.node steps.there may) steps refl
 
@@ -333,6 +365,11 @@ replace_out : (other old : ℕ) (found : Result ℕ IdsUsedUp) (kept : List Reco
     → TakesOut other (with_new found (Replace old)) → is_kept other kept ≡ true
 replace_out other old (Ok new) kept is out_replaced = is
 replace_out other old (Err why) kept is out = elim out [ ]
+
+replace_gets : (id old : ℕ) (desk : Desk) (found : Result ℕ IdsUsedUp)
+    → OfEvent (GetsNone id) desk (with_new found (Replace old))
+replace_gets id old desk (Ok new) = refl
+replace_gets id old desk (Err why) = tt
 
 pub replace_line : (id number machine old : ℕ) (t t2 : Trace) (before next : LineState) (done past : List Happening)
     → Passing id t t2 before next done past → may_replace machine old before ≡ may_do
@@ -349,5 +386,108 @@ replace_line id number machine old t t2 before next done past p may steps =
     (λ other out. replace_out other old (next_id own.node.maker) own.node.lane.body.kept mine out)
     (λ is. ap (λ (n : NodeState). n.supervised) (sym was)
     ∙ kept_watched before (j + 1) old p.watched
-    (ap (λ (n : NodeState). keeps_it old n.lane.body) was ∙ (sym (kept_ids old own.node.lane.body.kept) ∙ mine)))))
+    (ap (λ (n : NodeState). keeps_it old n.lane.body) was ∙ (sym (kept_ids old own.node.lane.body.kept) ∙ mine)))
+    (new_unknown id number j (inputs.Replace old) t t2 before next done past p own
+    (replace_gets id old (desk_of own.node (moment_of number)) (next_id own.node.maker)))))
     (replacing_kept machine old before steps.node steps.there may) steps refl
+
+-- ---- a board goes to another lane, or comes from one
+
+give_out : (other old to : ℕ) (kept : List Record) → is_kept old kept ≡ true → TakesOut other (Gives old to)
+    → is_kept other kept ≡ true
+give_out _ old to kept is out_given = is
+
+give_in : {X : Type 0} (id old to : ℕ) → BringsIn id (Gives old to) → X
+give_in id old to is = elim is [ ]
+
+pub give_line : (id number machine old to : ℕ) (t t2 : Trace) (before next : LineState) (done past : List Happening)
+    → Passing id t t2 before next done past → may_get machine (inputs.Gives old to) before ≡ may_do
+    → MachineSteps number machine (inputs.Gives old to) before next done → Agreed id next (past ++ done)
+give_line id number machine old to t t2 before next done past p may steps =
+    numbered (λ (m : ℕ). is_kept old steps.node.lane.body.kept ≡ true
+    → (own : MachineSteps number m (inputs.Gives old to) before next done)
+    → own.node ≡ steps.node → Agreed id next (past ++ done)) machine before steps.node steps.there
+    (λ j kept own same.
+    (let none : list_any (brings_in id) (plain_of number (j + 1) (inputs.Gives old to) before next done own) ≡ true → ⊥ =
+    λ is. give_in id old to (ins_are id (desk_of own.node (moment_of number)) (Gives old to) _
+    (sym (step_ins id (desk_of own.node (moment_of number)) (unread_by (j + 1) before.world) (Gives old to) own.node.lane.body) ∙ is)) in
+    hand_line id number j (inputs.Gives old to) t t2 before next done past p own
+    (λ other out. give_out other old to own.node.lane.body.kept
+    (ap (λ (n : NodeState). is_kept old n.lane.body.kept) same ∙ kept) out)
+    (λ is. absurd (none is)) (λ is. absurd (none is))))
+    (gives_can machine old to before steps.node steps.there may).kept steps refl
+
+-- no machine has a mark of it
+pub none_marked : (id machine : ℕ) (s : LineState) → ((mark : Mark) → HasMark (stand_of s) id mark → ⊥)
+    → IsMarked (view_of id s) machine → ⊥
+none_marked id machine s none (inl kept) =
+    none _ (has_kept {m = machine} (id_kept id (node_at s machine).lane.body.kept kept))
+none_marked id machine s none (inr (inl held)) =
+    let found = id_held id _ held in
+    none _ (has_outlet {m = machine} found.1 found.2)
+none_marked id machine s none (inr (inr taken)) =
+    let found = id_held id _ taken in
+    none _ (has_intake {m = machine} found.1 found.2)
+
+got_out : {X : Type 0} (old : ℕ) (board : Record) → TakesOut old (Gets board) → X
+got_out old board out = elim out [ ]
+
+got_is : (id : ℕ) (board : Record) → BringsIn id (Gets board) → board.id ≡ id
+got_is id board (in_got same) = same
+
+pub get_line : (id number machine : ℕ) (board : Record) (t t2 : Trace) (before next : LineState)
+    (done past : List Happening) → Passing id t t2 before next done past
+    → (board.id ≡ id → list_any (came_in id) done ≡ true → IsUnknown id past)
+    → ((mark : Mark) → HasMark (stand_of before) board.id mark → ⊥)
+    → MachineSteps number machine (inputs.Gets board) before next done → Agreed id next (past ++ done)
+get_line id number machine board t t2 before next done past p unknown none steps =
+    numbered (λ (m : ℕ). MachineSteps number m (inputs.Gets board) before next done → Agreed id next (past ++ done))
+    machine before steps.node steps.there (λ j own.
+    hand_line id number j (inputs.Gets board) t t2 before next done past p own
+    (λ old out. got_out old board out) (got_watched j own) (λ is.
+    got_unknown (got_same j own is)
+    (got_told id number (j + 1) board before next done own (got_same j own is)))) steps where
+      got_same : (j : ℕ) → (own : MachineSteps number (j + 1) (inputs.Gets board) before next done)
+          → list_any (brings_in id) (plain_of number (j + 1) (inputs.Gets board) before next done own) ≡ true
+          → board.id ≡ id
+      got_same j own is =
+          let desk = desk_of own.node (moment_of number) in
+          let unread : List Sensed = unread_by (j + 1) before.world in
+          got_is id board (ins_are id desk (Gets board) (all_read desk unread own.node.lane.body).body (sym (step_ins id desk unread (Gets board) own.node.lane.body) ∙ is))
+
+      got_unknown : board.id ≡ id → list_any (came_in id) done ≡ true
+          → (told_of id past ≡ nothing_told) × (((gap : ℕ) → left_since gap id past ≡ false)
+          × (((i : ℕ) → (view_of id before).kept i ≡ false)
+          × (((i : ℕ) → (view_of id before).held i ≡ false)
+          × ((i : ℕ) → (view_of id before).taken i ≡ false))))
+      got_unknown same came =
+          let un : IsUnknown id past = unknown same came in
+          let no : (mark : Mark) → HasMark (stand_of before) id mark → ⊥ =
+          subst (λ (x : ℕ). (mark : Mark) → HasMark (stand_of before) x mark → ⊥) same none in (
+            un.told,
+            (
+              un.left,
+              (
+                λ i. false_from_ne_true ((view_of id before).kept i) (λ has. none_marked id i before no (inl has)),
+                (
+                  λ i. false_from_ne_true ((view_of id before).held i) (λ has. none_marked id i before no (inr (inl has))),
+                  λ i. false_from_ne_true ((view_of id before).taken i) (λ has. none_marked id i before no (inr (inr has))),
+                ),
+              ),
+            ),
+          )
+
+      got_watched : (j : ℕ) → (own : MachineSteps number (j + 1) (inputs.Gets board) before next done)
+          → list_any (brings_in id) (plain_of number (j + 1) (inputs.Gets board) before next done own) ≡ true
+          → own.node.supervised ≡ true
+      got_watched j own is =
+          let desk = desk_of own.node (moment_of number) in
+          let unread : List Sensed = unread_by (j + 1) before.world in
+          let mine = own_step number j (inputs.Gets board) before next done own in
+          let kept : keeps_it board.id (node_at next (j + 1)).lane.body ≡ true =
+          ap (keeps_it board.id) mine.now ∙ got_kept desk unread board own.node.lane.body in
+          let next_is : node_at next (j + 1) ≡ own.next =
+          node_there (j + 1) next own.next (ap (machine_in (j + 1)) own.after_is
+          ∙ machine_set_own (j + 1) before own.node own.next own.there) in
+          sym own.steps.supervised ∙ ap (λ (n : NodeState). n.supervised) (sym next_is)
+          ∙ kept_watched next (j + 1) board.id p.watched2 kept

@@ -35,7 +35,7 @@ use Rattle.line_report.specs.declared.happening.Happening.TheVariants as happeni
 use Rattle.standings.specs.Marks.{has_mark, is_same_mark}
 use Rattle.standings.specs.declared.mark.Mark.{Mark}
 use Rattle.standings.specs.declared.mark.Mark.TheVariants.{Kept, Outlet, Intake}
-use Rattle.line_step.specs.Lies.{has_lie}
+use Rattle.line_step.specs.Homes.{IsHonest}
 use Rattle.line_step.specs.Numbered.{node_at}
 use Rattle.line_step.specs.Tracks.{TrackLine}
 use Rattle.line_step.specs.Runs.{IsRun, Point, IsShort}
@@ -87,10 +87,15 @@ with_message id machine (bodies.BoardDeparted passage) told =
     if passage.id == id then departs machine passage.how told else told
 with_message id machine _ told = told
 
--- from the `tells` lines alone
+-- from the `tells` lines; and, of a track alone, what goes to another lane is gone from this one as
+-- by a hand, and what comes from there is at its machine
 abbrev pub with_happening : ℕ → Happening → Told → Told
 with_happening id (happenings.Done machine (acts.Tells message)) told =
     with_message id machine message.body told
+with_happening id (happenings.Done machine (acts.Gives other to)) told =
+    if other == id then departs machine ByHand told else told
+with_happening id (happenings.Done machine (acts.Gets other)) told =
+    if other == id then record told { place = At machine } else told
 with_happening id _ told = told
 
 abbrev pub told_after : ℕ → List Happening → Told → Told
@@ -148,18 +153,30 @@ IsWatched s =
 abbrev pub AreWatched : List Point → Type 0
 AreWatched points = AllByRecursion (λ (point : Point). IsWatched point.after) points
 
--- line after line: `past` is what was reported before
-abbrev pub KeepAgreeing : List Happening → List Point → Type 0
-KeepAgreeing past [] = Unit {0}
-KeepAgreeing past (point ∷ points) =
-    ((id : ℕ) → Agrees (past ++ point.told) point.after id)
-    × KeepAgreeing (past ++ point.told) points
+-- it was reported that a board came from another lane
+abbrev pub came_in : ℕ → Happening → Bool
+came_in id (happenings.Done machine (acts.Gets other)) = other == id
+came_in id _ = false
+
+-- of a board a supervisor forgets what was reported before the line by which it came from another
+-- lane: `past` is what it had of it before a line, `told` what the line tells
+abbrev pub since_came : ℕ → List Happening → List Happening → List Happening
+since_came id past told = if list_any (came_in id) told then told else past ++ told
+
+-- line after line, of one id
+abbrev pub KeepAgreeing : ℕ → List Happening → List Point → Type 0
+KeepAgreeing id past [] = Unit {0}
+KeepAgreeing id past (point ∷ points) =
+    Agrees (since_came id past point.told) point.after id
+    × KeepAgreeing id (since_came id past point.told) points
 
 -- THE LAW: where each machine is supervised before its first mark, it holds after each line of
 -- every script, up to the first one that told what was not so, or let a board come or go unseen. A
--- script has at most 1,000,000 lines, and its barcodes are texts
+-- script has at most 1,000,000 lines, and its barcodes are texts. Of a track it holds up to the first
+-- line, too, by which a board comes from another lane to where it is at home
 abbrev pub ReplayAgrees : Type 0
 ReplayAgrees =
     (asked : List TrackLine) (points : List Point) (n : ℕ) → AllByRecursion IsFitTrack asked
-    → IsShort no_line points → IsRun no_line asked points → has_lie (take n points) ≡ false
-    → AreWatched (take n points) → KeepAgreeing [] (take n points)
+    → IsShort no_line points → IsRun no_line asked points → IsHonest asked points n
+    → AreWatched (take n points)
+    → (id : ℕ) → KeepAgreeing id [] (take n points)

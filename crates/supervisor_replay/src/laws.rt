@@ -8,8 +8,9 @@ ghost use Rattle.supervisor_replay.specs.Replay.{ReplayAgrees};
 /// marks do: at the machine that keeps it or whose outlet holds it; on its way where it has left a
 /// machine and the intake of the next one alone holds it; and else nowhere. So it is after each
 /// line of a script, up to the first one that told of a sensor event that was not, or let a board
-/// come or go unseen. It says nothing of a line behind a `lie` or an `unseen`, and nothing of a
-/// script of more than 1,000,000 lines.
+/// come or go unseen, or come from another lane to where it is at home. What was told of a board
+/// before the line by which it came from another lane is forgotten. It says nothing of a line behind
+/// a `lie` or an `unseen`, and nothing of a script of more than 1,000,000 lines.
 pub fn the_replay_agrees_with_the_marks()
     ensures { ReplayAgrees }
 {
@@ -20,8 +21,8 @@ pub fn the_replay_agrees_with_the_marks()
     link_messages::laws::the_words_behind_a_nul_are_fit();
 }
 
-/// The same of the next line behind a run of a script: what is folded from all that was told
-/// before it, and from what it tells, agrees with the marks behind it.
+/// The same of the next line behind a run of a track: what is folded from all that was told before
+/// it, and from what it tells, agrees with the marks behind it.
 pub fn each_line_keeps_the_replay_right()
     ensures { AgreesAlong }
 {

@@ -17,7 +17,6 @@ use Rattle.handover_in.specs.State.{InState, name_of_phase}
 use Rattle.handover_in.specs.declared.input.InInput.TheVariants as in_input
 use Rattle.handover_in.specs.declared.phase.Phase.{Phase as In}
 use Rattle.handover_in.specs.declared.phase.Phase.TheVariants as inn
-use Rattle.line_script.specs.declared.line.ScriptLine.{ScriptLine}
 use Rattle.node_core.specs.Announces.{announces, is_free, is_front, is_intake_free, offer, offer_by, offers_now, readies_now, ready, ready_by, revoke, revoke_by, revokes_now, start_by, starts_now, unready, unready_by, unreadies_now}
 use Rattle.node_core.specs.Desk.{Desk}
 use Rattle.node_core.specs.Done.{Done}
@@ -46,7 +45,7 @@ use Rattle.twelve_steps.proofs.Beside.{SameLower, SameUpper}
 use Rattle.twelve_steps.proofs.Going.{next_node}
 use Rattle.twelve_steps.proofs.Lower.{Aside, HasRoom, offer_aside, ready_tests}
 use Rattle.twelve_steps.proofs.Upper.{last_willing, ready_beside, start_beside, unready_beside}
-use Rattle.line_step.proofs.Requests.{Request, request_of}
+use Rattle.line_step.specs.Requests.{Request}
 use Rattle.line_step.proofs.Effects.{becomes_by}
 use Rattle.line_step.proofs.Turns.{LineTurns, line_turns}
 use Rattle.line_step.proofs.Turns as turns
@@ -215,19 +214,19 @@ step_heeds number m input before after told steps h = record { at = λ n. step_h
 new_heeds : (is_bridge : Bool) (capacity : ℕ) → Heeds capacity (first_body is_bridge)
 new_heeds is_bridge capacity = record { exit = λ idle some. absurd (cc); entry = λ free told. absurd (cc) }
 
-last_at : (is_bridge : Bool) (capacity many : ℕ) (s : LineState) → node_at (one_more is_bridge capacity many s) (suc (length s.machines)) ≡ new_node (profile_of is_bridge (length s.machines + 1) capacity many)
-last_at is_bridge capacity many s = last_node s.machines (new_node (profile_of is_bridge (length s.machines + 1) capacity many))
+last_at : (lane : ℕ) (is_bridge : Bool) (capacity many : ℕ) (s : LineState) → node_at (one_more lane is_bridge capacity many s) (suc (length s.machines)) ≡ new_node (profile_of lane is_bridge (length s.machines + 1) capacity many)
+last_at lane is_bridge capacity many s = last_node s.machines (new_node (profile_of lane is_bridge (length s.machines + 1) capacity many))
 
-more_heeds_at : (is_bridge : Bool) (capacity many n : ℕ) (s : LineState) → HeedsAll s → (n ≡ length s.machines + 1) ⊎ (n ≢ length s.machines + 1) → Heeds (node_at (one_more is_bridge capacity many s) n).capacity (node_at (one_more is_bridge capacity many s) n).lane.body
-more_heeds_at is_bridge capacity many n s h (inl is) =
+more_heeds_at : (lane : ℕ) (is_bridge : Bool) (capacity many n : ℕ) (s : LineState) → HeedsAll s → (n ≡ length s.machines + 1) ⊎ (n ≢ length s.machines + 1) → Heeds (node_at (one_more lane is_bridge capacity many s) n).capacity (node_at (one_more lane is_bridge capacity many s) n).lane.body
+more_heeds_at lane is_bridge capacity many n s h (inl is) =
     let place : n ≡ suc (length s.machines) = omega (arith, is) in
-    subst (λ (x : NodeState). Heeds x.capacity x.lane.body) (sym (ap (λ (x : ℕ). node_at (one_more is_bridge capacity many s) x) place ∙ last_at is_bridge capacity many s)) (new_heeds is_bridge capacity)
-more_heeds_at is_bridge capacity many n s h (inr apart) =
-    let same : node_at (one_more is_bridge capacity many s) n ≡ node_at s n = ap (λ (x : Stand). x.node) ((more_changes is_bridge capacity many s).machines n apart) in
+    subst (λ (x : NodeState). Heeds x.capacity x.lane.body) (sym (ap (λ (x : ℕ). node_at (one_more lane is_bridge capacity many s) x) place ∙ last_at lane is_bridge capacity many s)) (new_heeds is_bridge capacity)
+more_heeds_at lane is_bridge capacity many n s h (inr apart) =
+    let same : node_at (one_more lane is_bridge capacity many s) n ≡ node_at s n = ap (λ (x : Stand). x.node) ((more_changes lane is_bridge capacity many s).machines n apart) in
     subst (λ (x : NodeState). Heeds x.capacity x.lane.body) (sym same) (h.at n)
 
-more_heeds : (is_bridge : Bool) (capacity many : ℕ) (s : LineState) → HeedsAll s → HeedsAll (one_more is_bridge capacity many s)
-more_heeds is_bridge capacity many s h = record { at = λ n. more_heeds_at is_bridge capacity many n s h (same_or_not n (length s.machines + 1)) }
+more_heeds : (lane : ℕ) (is_bridge : Bool) (capacity many : ℕ) (s : LineState) → HeedsAll s → HeedsAll (one_more lane is_bridge capacity many s)
+more_heeds lane is_bridge capacity many s h = record { at = λ n. more_heeds_at lane is_bridge capacity many n s h (same_or_not n (length s.machines + 1)) }
 
 twice_heeds : (number m : ℕ) (s next : LineState) (told : List Happening) → Connects number m s next told → HeedsAll s → HeedsAll next
 twice_heeds number m s next told c h = step_heeds number _ _ c.between next c.later c.second (step_heeds number m _ _ c.between c.earlier c.first (record { at = h.at }))
@@ -237,14 +236,14 @@ same_heeds s next same h = record { at = λ m. subst (λ (x : NodeState). Heeds 
 
 turns_heed : (number : ℕ) (request : Request) (s next : LineState) (told : List Happening) → LineTurns number s next told request → HeedsAll s → HeedsAll next
 turns_heed number request s next told (turns.stays _ same none) h = same_heeds s next same h
-turns_heed number request s next told (turns.adds is_bridge capacity many may b) h = becomes_by (λ x ts. HeedsAll x) b (more_heeds is_bridge capacity many s h)
+turns_heed number request s next told (turns.adds lane is_bridge capacity many may b) h = becomes_by (λ x ts. HeedsAll x) b (more_heeds lane is_bridge capacity many s h)
 turns_heed number request s next told (turns.steps m input given may did) h = step_heeds number m input s next told did h
 turns_heed number request s next told (turns.connects m may did) h = twice_heeds number m s next told did h
 turns_heed number request s next told (turns.flows m side count may did) h = step_heeds number m _ _ next told did.steps (record { at = h.at })
 
-line_heeds : (number : ℕ) (line : ScriptLine) (s after : LineState) (told : List Happening) → LineSteps number line s after told → HeedsAll s → HeedsAll after
-line_heeds number line s after told steps h =
-    let next : HeedsAll steps.next = turns_heed number (request_of line) s steps.next steps.done (line_turns number line s steps.next steps.done steps.does) h in
+line_heeds : (number : ℕ) (request : Request) (s after : LineState) (told : List Happening) → LineSteps number request s after told → HeedsAll s → HeedsAll after
+line_heeds number request s after told steps h =
+    let next : HeedsAll steps.next = turns_heed number request s steps.next steps.done (line_turns number request s steps.next steps.done steps.does) h in
     subst (λ (x : LineState). HeedsAll x) (sym steps.after_is) (record { at = next.at })
 
 heeds_by : (node now : NodeState) → IsBesideNode node now → Heeds node.capacity node.lane.body → Heeds now.capacity now.lane.body
@@ -252,7 +251,7 @@ heeds_by node now beside h =
     subst (λ (n : ℕ). Heeds n now.lane.body) (sym beside.capacity) (subst (λ (l : Lane). Heeds node.capacity l.body) (sym beside.lane) h)
 
 track_heeds : (number : ℕ) (line : TrackLine) (s after : LineState) (told : List Happening) → TrackSteps number line s after told → HeedsAll s → HeedsAll after
-track_heeds number (own_line line) s after told steps h = line_heeds number line s after told steps h
+track_heeds number (own_line request) s after told steps h = line_heeds number request s after told steps.0 h
 track_heeds number other_line s after told steps h = record { at = λ m. heeds_by (node_at s m) (node_at after m) (beside-node s after m steps.0) (h.at m) }
 
 pub run_heeds : (asked : List TrackLine) (points : List Point) (s : LineState) → HeedsAll s → IsRun s asked points → HeedsAll (state_behind s points)

@@ -35,13 +35,13 @@ use Rattle.node_core.specs.declared.word.Word.{Word}
 use Rattle.node_core.specs.declared.word.Word.TheVariants.{Says}
 use Rattle.link_messages.specs.Fit.{IsFit, IsFitDesk}
 use Rattle.link_messages.proofs.SayingWhat.{service_fits}
-use Rattle.line_script.specs.declared.line.ScriptLine.TheVariants as lines
 use Rattle.line_step.specs.Acts.{acts_did, cut_told}
 use Rattle.line_step.specs.Lines.{LineSteps, arrived, connecting}
 use Rattle.line_step.specs.Numbered.{node_at}
 use Rattle.line_step.specs.State.{LineState, machine_in, no_line, one_more, with_machine, with_world}
 use Rattle.line_step.specs.Steps.{MachineSteps, is_second, moment_of, read_by, unread_by}
 use Rattle.line_step.specs.World.{link_at}
+use Rattle.line_step.specs.Requests as requests
 use Rattle.one_standing.proofs.Carrying.{SaysAlone}
 use Rattle.one_standing.proofs.RestMore.{machine_is_text}
 use Rattle.twelve_steps.specs.Example.{IsReachedAnnounced, announced_line, board_offered, first_board, machine_above, machine_below, place_told}
@@ -157,10 +157,10 @@ abbrev counted : LineState → LineState
 counted s = record s { lines = s.lines + 1 }
 
 abbrev line_1 : LineState
-line_1 = counted (one_more false 4 0 no_line)
+line_1 = counted (one_more 1 false 4 0 no_line)
 
 abbrev line_2 : LineState
-line_2 = counted (one_more false 4 0 line_1)
+line_2 = counted (one_more 1 false 4 0 line_1)
 
 abbrev start_3 : LineState
 start_3 = connecting 2 line_2
@@ -238,7 +238,7 @@ above_fits =
 
 -- ---- the run
 
-run_3 : SaysAlone → LineSteps 3 (lines.Connect 2) line_2 line_3 (happenings.Done 2 acts.Connects ∷ happenings.Done 2 (acts.Sends Entry below) ∷ [])
+run_3 : SaysAlone → LineSteps 3 (requests.connects 2) line_2 line_3 (happenings.Done 2 acts.Connects ∷ happenings.Done 2 (acts.Sends Entry below) ∷ [])
 run_3 alone =
     let sends : IsSent Downstream (canonical below) joined = sends_alone alone Downstream joined below below_fits refl refl in
     record {
@@ -258,7 +258,7 @@ run_3 alone =
       told_is = ap (λ (s : Sent). happenings.Done 2 acts.Connects ∷ happenings.Done 2 (acts.Sends Entry below) ∷ (((cut_told 1 s ++ []) ++ []) ++ [])) (sym sends.sent_is);
     }
 
-run_4 : SaysAlone → LineSteps 4 (lines.Flow 1 Exit None) line_3 line_4 (happenings.Done 1 (acts.Hears Exit below) ∷ happenings.Done 1 (acts.Sends Exit above) ∷ [])
+run_4 : SaysAlone → LineSteps 4 (requests.flows 1 Exit None) line_3 line_4 (happenings.Done 1 (acts.Hears Exit below) ∷ happenings.Done 1 (acts.Sends Exit above) ∷ [])
 run_4 alone =
     let sends : IsSent Upstream (canonical above) joined = sends_alone alone Upstream joined above above_fits refl refl in
     let flows : after_flow Upstream None (texted Upstream (canonical below) joined) ≡ joined = ap (λ (s : Stream). record joined { flows = record { to_upstream = s; to_downstream = dry } }) (arrives_whole (canonical below)) in
@@ -272,7 +272,7 @@ run_4 alone =
       told_is = ap (λ (s : Sent). happenings.Done 1 (acts.Hears Exit below) ∷ happenings.Done 1 (acts.Sends Exit above) ∷ ((cut_told 1 s ++ []) ++ [])) (sym (ap (λ (l : LinkParts). sent_of Upstream (canonical above) l) flows ∙ sends.sent_is));
     }
 
-run_5 : SaysAlone → LineSteps 5 (lines.Flow 2 Entry None) line_4 line_5 (happenings.Done 2 (acts.Hears Entry above) ∷ happenings.Done 2 (acts.Sends Entry place_told) ∷ [])
+run_5 : SaysAlone → LineSteps 5 (requests.flows 2 Entry None) line_4 line_5 (happenings.Done 2 (acts.Hears Entry above) ∷ happenings.Done 2 (acts.Sends Entry place_told) ∷ [])
 run_5 alone =
     let sends : IsSent Downstream (canonical place_told) joined = sends_alone alone Downstream joined place_told place_one refl refl in
     let flows : after_flow Downstream None (texted Downstream (canonical above) joined) ≡ joined = ap (λ (s : Stream). record joined { flows = record { to_upstream = dry; to_downstream = s } }) (arrives_whole (canonical above)) in
@@ -286,7 +286,7 @@ run_5 alone =
       told_is = ap (λ (s : Sent). happenings.Done 2 (acts.Hears Entry above) ∷ happenings.Done 2 (acts.Sends Entry place_told) ∷ ((cut_told 1 s ++ []) ++ [])) (sym (ap (λ (l : LinkParts). sent_of Downstream (canonical place_told) l) flows ∙ sends.sent_is));
     }
 
-run_6 : SaysAlone → LineSteps 6 (lines.Insert 1 None) line_5 announced_line (happenings.Done 1 (acts.Inserts first_board) ∷ happenings.Done 1 (acts.Sends Exit board_offered) ∷ happenings.With 1 first_board ∷ [])
+run_6 : SaysAlone → LineSteps 6 (requests.gives 1 (inputs.Insert None)) line_5 announced_line (happenings.Done 1 (acts.Inserts first_board) ∷ happenings.Done 1 (acts.Sends Exit board_offered) ∷ happenings.With 1 first_board ∷ [])
 run_6 alone =
     let sends : IsSent Upstream (canonical board_offered) (link_at 1 line_5.world) = sends_alone alone Upstream (link_at 1 line_5.world) board_offered offer_one refl refl in
     record {
@@ -310,10 +310,10 @@ is_reached_announced alone = record {
       ∷ record { told = happenings.Done 1 (acts.Inserts first_board) ∷ happenings.Done 1 (acts.Sends Exit board_offered) ∷ happenings.With 1 first_board ∷ []; after = announced_line }
       ∷ [];
   run = (
-    record { next = one_more false 4 0 no_line; done = happenings.Machine 1 4 ∷ []; does = record { after_is = refl; told_is = refl }; lines = 1; counts = rises 0; after_is = refl; told_is = refl },
+    (record { next = one_more 1 false 4 0 no_line; done = happenings.Machine 1 4 ∷ []; does = record { after_is = refl; told_is = refl }; lines = 1; counts = rises 0; after_is = refl; told_is = refl }, tt),
     (
-      record { next = one_more false 4 0 line_1; done = happenings.Machine 2 4 ∷ []; does = record { after_is = refl; told_is = refl }; lines = 2; counts = rises 1; after_is = refl; told_is = refl },
-      (run_3 alone, (run_4 alone, (run_5 alone, (run_6 alone, tt)))),
+      (record { next = one_more 1 false 4 0 line_1; done = happenings.Machine 2 4 ∷ []; does = record { after_is = refl; told_is = refl }; lines = 2; counts = rises 1; after_is = refl; told_is = refl }, tt),
+      ((run_3 alone, tt), ((run_4 alone, tt), ((run_5 alone, tt), ((run_6 alone, tt), tt)))),
     ),
   );
   honest = refl;

@@ -19,7 +19,6 @@ use Rattle.handover_out.specs.declared.phase.Phase.TheVariants as out
 use Rattle.handover_in.specs.State.{board_of_phase as held_in}
 use Rattle.line_link.specs.Flow.{Stream, coming, is_begun}
 use Rattle.line_link.specs.Texts.{bytes_of}
-use Rattle.line_script.specs.declared.line.ScriptLine.TheVariants as lines
 use Rattle.line_world.specs.FloorPlan.{FloorPlan, IsGap, gap_at, machine_at}
 use Rattle.line_world.specs.Moved.{IsMove, around_by, begins as is_begins, enters as is_enters, leaves as is_leaves}
 use Rattle.line_world.specs.Moves.{Around, around_of, floor_move, with_around}
@@ -42,6 +41,8 @@ use Rattle.line_step.specs.Numbered.{node_at}
 use Rattle.line_step.specs.Reasons.{has_neighbour, has_unread, is_dry_at, is_empty, is_read, may_do, may_flow, may_sense}
 use Rattle.line_step.specs.State.{LineState, machine_in}
 use Rattle.line_step.specs.World.{link_at}
+use Rattle.line_step.specs.Requests as requests
+use Rattle.node_core.specs.declared.input.Input.TheVariants as inputs
 use Rattle.line_step.proofs.Numbers.{machine_at_number}
 use Rattle.one_standing.specs.Carried.{between_of, stand_of}
 use Rattle.one_standing.specs.Relation.{Owns}
@@ -125,16 +126,16 @@ sense_down_may {k = k} {s = s} {event = event} {others = others} st is =
 -- ---- these are link steps
 
 up_goes_on : {k : ℕ} {id : Record} {left : ℕ} {told : Bool} {s : LineState} {what : Horizontal} {others : List Horizontal} (st : Stage k id left told s) → bodies st.up ≡ what ∷ others → CanGoOn k s
-up_goes_on {k = k} st is = record { line = lines.Flow k Exit None; is_step = own_eq k; possible = flow_up_may st is }
+up_goes_on {k = k} st is = record { request = requests.flows k Exit None; is_step = own_eq k; possible = flow_up_may st is }
 
 down_goes_on : {k : ℕ} {id : Record} {left : ℕ} {told : Bool} {s : LineState} {what : Horizontal} {others : List Horizontal} (st : Stage k id left told s) → bodies st.down ≡ what ∷ others → CanGoOn k s
-down_goes_on {k = k} st is = record { line = lines.Flow (k + 1) Entry None; is_step = own_eq (k + 1); possible = flow_down_may st is }
+down_goes_on {k = k} st is = record { request = requests.flows (k + 1) Entry None; is_step = own_eq (k + 1); possible = flow_down_may st is }
 
 up_reads_on : {k : ℕ} {id : Record} {left : ℕ} {told : Bool} {s : LineState} {event : SensorEvent} {others : List SensorEvent} (st : Stage k id left told s) → st.up_seen ≡ event ∷ others → CanGoOn k s
-up_reads_on {k = k} {s = s} st is = record { line = lines.Sense k; is_step = unread_above k s ∙ ap (λ (es : List SensorEvent). are_some es) (st.up_unread ∙ is); possible = sense_up_may st is }
+up_reads_on {k = k} {s = s} st is = record { request = requests.gives k inputs.Nothing; is_step = unread_above k s ∙ ap (λ (es : List SensorEvent). are_some es) (st.up_unread ∙ is); possible = sense_up_may st is }
 
 down_reads_on : {k : ℕ} {id : Record} {left : ℕ} {told : Bool} {s : LineState} {event : SensorEvent} {others : List SensorEvent} (st : Stage k id left told s) → st.down_seen ≡ event ∷ others → CanGoOn k s
-down_reads_on {k = k} {s = s} st is = record { line = lines.Sense (k + 1); is_step = unread_below k s ∙ ap (λ (es : List SensorEvent). are_some es) (st.down_unread ∙ is); possible = sense_down_may st is }
+down_reads_on {k = k} {s = s} st is = record { request = requests.gives (k + 1) inputs.Nothing; is_step = unread_below k s ∙ ap (λ (es : List SensorEvent). are_some es) (st.down_unread ∙ is); possible = sense_down_may st is }
 
 -- ---- the board can move forth
 
@@ -185,17 +186,17 @@ lies_across_of (lies_across {board = board}) = (board, refl)
 begin_goes_on : {k : ℕ} {id : Record} {left : ℕ} {told : Bool} {s : LineState} (st : Stage k id left told s) → Stood s → IsGapOf fresh (moves_out false) (takes false false) (gap_at s.world.floor k) → (node_at s k).lane.body.outlet.phase ≡ out.Moving st.a false → st.up_seen ≡ [] → CanGoOn k s
 begin_goes_on {k = k} {s = s} st stood gap phase none =
     let first = first_board st stood phase none in
-    record { line = lines.Begin k; is_step = own_eq k; possible = moves_ok k moves.Begin s _ _ (gap_of k s (counts_of stood) (counted k s st.linked)) (around_is s.world.floor k (board_of st.a ∷ first.0) gaps.Free true true first.1 (lies_free gap.lies) gap.exit gap.entry) is_begins }
+    record { request = requests.moves_on k moves.Begin; is_step = own_eq k; possible = moves_ok k moves.Begin s _ _ (gap_of k s (counts_of stood) (counted k s st.linked)) (around_is s.world.floor k (board_of st.a ∷ first.0) gaps.Free true true first.1 (lies_free gap.lies) gap.exit gap.entry) is_begins }
 
 left_goes_on : {k : ℕ} {id : Record} {left : ℕ} {told : Bool} {s : LineState} (st : Stage k id left told s) → Stood s → IsGapOf begun (moves_out true) (takes true false) (gap_at s.world.floor k) → CanGoOn k s
 left_goes_on {k = k} {s = s} st stood gap =
     let lies = lies_begun_of gap.lies in
-    record { line = lines.Left k; is_step = own_eq k; possible = moves_ok k moves.Left s _ _ (gap_of k s (counts_of stood) (counted k s st.linked)) (around_is s.world.floor k (machine_at s.world.floor k).boards (gaps.Begun lies.0) true true refl lies.1 gap.exit gap.entry) is_leaves }
+    record { request = requests.moves_on k moves.Left; is_step = own_eq k; possible = moves_ok k moves.Left s _ _ (gap_of k s (counts_of stood) (counted k s st.linked)) (around_is s.world.floor k (machine_at s.world.floor k).boards (gaps.Begun lies.0) true true refl lies.1 gap.exit gap.entry) is_leaves }
 
 enter_goes_on : {k : ℕ} {id : Record} {left : ℕ} {told : Bool} {s : LineState} (st : Stage k id left told s) → Stood s → IsGapOf across ended (takes true true) (gap_at s.world.floor k) → CanGoOn k s
 enter_goes_on {k = k} {s = s} st stood gap =
     let lies = lies_across_of gap.lies in
-    record { line = lines.Enter k; is_step = own_eq k; possible = moves_ok k moves.Enter s _ _ (gap_of k s (counts_of stood) (counted k s st.linked)) (around_is s.world.floor k (machine_at s.world.floor k).boards (gaps.Left lies.0) (gap_at s.world.floor k).exit_drive true refl lies.1 refl gap.entry) is_enters }
+    record { request = requests.moves_on k moves.Enter; is_step = own_eq k; possible = moves_ok k moves.Enter s _ _ (gap_of k s (counts_of stood) (counted k s st.linked)) (around_is s.world.floor k (machine_at s.world.floor k).boards (gaps.Left lies.0) (gap_at s.world.floor k).exit_drive true refl lies.1 refl gap.entry) is_enters }
 
 moving_goes_on : {k : ℕ} {id : Record} {left : ℕ} {told : Bool} {s : LineState} {w : Way} {u : Upper} {up_seen down_seen : List SensorEvent} {read : Bool} (st : Stage k id left told s) → Stood s → IsGapOf w u (takes read false) (gap_at s.world.floor k) → (node_at s k).lane.body.outlet.phase ≡ phase_of st.a u → st.up_seen ≡ up_seen → st.down_seen ≡ down_seen → Above w u up_seen → Below w read down_seen → CanGoOn k s
 moving_goes_on st stood gap phase up down above_begun below = up_reads_on st up

@@ -1,5 +1,5 @@
 -- The stage along an undisturbed stretch.
-use Rattle.std.proofs.Common.{Bool, List, Some, [], ap, arith, false, length, refl, subst, sym, true, ℕ, ◌&&◌, ◌+◌, ◌∙◌, ◌∷◌, ◌≡◌, ◌≤◌, ◌||◌, if◌then◌else◌}
+use Rattle.std.proofs.Common.{Bool, List, Some, [], ap, arith, false, length, refl, subst, sym, true, ℕ, ◌&&◌, ◌++◌, ◌+◌, ◌∙◌, ◌∷◌, ◌≡◌, ◌≤◌, ◌||◌, if◌then◌else◌}
 use Rattle.std.specs.Prelude.{nat_le, nat_lt, not}
 use Rattle.std.specs.List.{AllByRecursion}
 use Rattle.std.proofs.lemmas.Bool.{or_parts, and_from}
@@ -7,7 +7,6 @@ use Rattle.board_record.specs.declared.record.Record.{Record}
 use Rattle.handover_out.specs.State.{is_idle_phase}
 use Rattle.handover_in.specs.State.{board_of_phase}
 use Rattle.handover_in.specs.declared.phase.Phase.{Phase as In}
-use Rattle.line_script.specs.declared.line.ScriptLine.{ScriptLine}
 use Rattle.line_report.specs.declared.happening.Happening.{Happening}
 use Rattle.node_core.specs.declared.lane.Lane.{Lane}
 use Rattle.line_step.specs.Tracks.{IsBeside, IsBesideNode, TrackLine, TrackSteps, asked_on, other_line, own_line}
@@ -19,11 +18,13 @@ use Rattle.line_step.specs.Numbered.{node_at}
 use Rattle.line_step.specs.Runs.{IsRun, Point, IsShort}
 use Rattle.line_step.specs.Shown.{standings_told}
 use Rattle.line_step.specs.State.{LineState}
+use Rattle.line_step.specs.Requests.{Request}
 use Rattle.line_step.proofs.Keeps.{lines_stay}
 use Rattle.one_standing.specs.Standing.{IsFitTrack}
 use Rattle.one_standing.proofs.Carrying.{SaysAlone}
 use Rattle.one_standing.proofs.LineForms.{ConnectsBear}
-use Rattle.one_standing.proofs.LineRun.{Stood, track_stood}
+use Rattle.one_standing.proofs.LineRun.{Stood, StoodBy, track_stood}
+use Rattle.line_step.specs.Homes.{AreNewcomers}
 use Rattle.one_standing.proofs.RestMore.{counted_stands}
 use Rattle.twelve_steps.specs.Twelve.{CanGoOnToEnd, HoldsIt, HoldsItToEnd, Unless, has_ended, one_if, steps_to_end, tells_settled}
 use Rattle.twelve_steps.specs.Undisturbed.{AreUndisturbed, CanGoOn, IsUndisturbed, is_link_step, is_of_link, more, tells_no}
@@ -65,17 +66,17 @@ counted_outcome : {k : ℕ} {id : Record} {left spare : ℕ} {told : Bool} (next
 counted_outcome {k = k} next n (goes_forth f) = goes_forth (record { now = f.now; fewer = f.fewer; stage = stage_untouched (count_untouched k next n) (λ is. is) f.stage })
 counted_outcome next n (comes_to_end e) = comes_to_end (record { fewer = e.fewer; told_is = e.told_is; idle = e.idle })
 
-pub one_line : {k : ℕ} {id : Record} {left : ℕ} {told : Bool} {s after : LineState} {what : List Happening} → SaysAlone → (line : ScriptLine) → IsUndisturbed k line → s.lines + 1 ≤ 1000000 → Stage k id left told s → Stood s → Stood after → LineSteps (s.lines + 1) line s after what
-    → Outcome k id left (one_if (is_link_step k s line what)) (told || tells_settled k id.id what) after
-one_line {k = k} {id = id} {left = left} {told = told} {s = s} {after = after} {what = what} alone line calm few st stood after_stood steps =
+pub one_line : {k : ℕ} {id : Record} {left : ℕ} {told : Bool} {s after : LineState} {what : List Happening} → SaysAlone → (request : Request) → IsUndisturbed k request → s.lines + 1 ≤ 1000000 → Stage k id left told s → Stood s → Stood after → LineSteps (s.lines + 1) request s after what
+    → Outcome k id left (one_if (is_link_step k s request what)) (told || tells_settled k id.id what) after
+one_line {k = k} {id = id} {left = left} {told = told} {s = s} {after = after} {what = what} alone request calm few st stood after_stood steps =
     let next : LineState = steps.next in
-    let lines_same : next.lines ≡ s.lines = lines_stay (s.lines + 1) line s next steps.done steps.does in
+    let lines_same : next.lines ≡ s.lines = lines_stay (s.lines + 1) request s next steps.done steps.does in
     let counted : Stood (record next { lines = steps.lines }) = subst (λ (x : LineState). Stood x) steps.after_is after_stood in
     let h : Had k id left (s.lines + 1) told s next = record { alone = alone; few = few; st = st; stood = stood; next_stood = uncounted next steps.lines (omega (arith, lines_same, few)) counted } in
-    let goes : Goes k id left told s line next steps.done = each_line line calm h steps.does in
+    let goes : Goes k id left told s request next steps.done = each_line request calm h steps.does in
     let first = outcome_later (or_more told (tells_settled k id.id steps.done) (tells_settled k id.id what) (λ is. ap (λ (hs : List Happening). tells_settled k id.id hs) steps.told_is ∙ settled_append k id.id steps.done (standings_told s next) is)) goes.out in
-    let less = outcome_less (one_if (is_link_step k s line what)) (fewer_step (is_of_link k s line) (tells_no steps.done) (tells_no what) (λ is. ap (λ (hs : List Happening). tells_no hs) steps.told_is ∙ no_append steps.done (standings_told s next) is)) first in
-    subst (λ (x : LineState). Outcome k id left (one_if (is_link_step k s line what)) (told || tells_settled k id.id what) x) (sym steps.after_is) (counted_outcome next steps.lines less)
+    let less = outcome_less (one_if (is_link_step k s request what)) (fewer_step (is_of_link k s request) (tells_no steps.done) (tells_no what) (λ is. ap (λ (hs : List Happening). tells_no hs) steps.told_is ∙ no_append steps.done (standings_told s next) is)) first in
+    subst (λ (x : LineState). Outcome k id left (one_if (is_link_step k s request what)) (told || tells_settled k id.id what) x) (sym steps.after_is) (counted_outcome next steps.lines less)
 
 -- what was told stays told
 told_still : (told now : Bool) → told ≡ true → (told || now) ≡ true
@@ -125,7 +126,7 @@ stage_beside {k = k} {id = id} {left = left} {told_now = told_now} {s = s} {next
 
 pub track_line : {k : ℕ} {id : Record} {left : ℕ} {told : Bool} {s after : LineState} → SaysAlone → (what : List Happening) (line : TrackLine) → IsUndisturbed k (asked_on line) → s.lines + 1 ≤ 1000000 → Stage k id left told s → Stood s → Stood after → TrackSteps (s.lines + 1) line s after what
     → Outcome k id left (one_if (is_link_step k s (asked_on line) what)) (told || tells_settled k id.id what) after
-track_line alone what (own_line line) calm few st stood after_stood steps = one_line alone line calm few st stood after_stood steps
+track_line alone what (own_line request) calm few st stood after_stood steps = one_line alone request calm few st stood after_stood steps.0
 track_line {k = k} {id = id} {left = left} {told = told} alone what other_line calm few st stood after_stood steps =
     goes_forth (record { now = left; fewer = omega arith; stage = stage_beside steps.0 (told_still told (tells_settled k id.id what)) st })
 
@@ -180,14 +181,14 @@ by_outcome {k = k} {id = id} {left = left} {told = told} {s = s} line lines poin
       holds = (holds, all_of (has_ended k told_now point.after) (HoldsItToEnd k id told_now point.after points) (λ off. absurd (let no : true ≡ false = sym over ∙ off in cc)));
     }
 
-pub run_ends : {k : ℕ} {id : Record} → SaysAlone → ConnectsBear → (lines : List TrackLine) (points : List Point) (left : ℕ) (told : Bool) (s : LineState) → Stage k id left told s → Stood s → AllByRecursion IsFitTrack lines → IsShort s points → IsRun s lines points → AreUndisturbed k lines → has_lie points ≡ false → Ends left k id told s lines points
-run_ends alone connects [] [] left told s st stood fit few run calm honest = record { few = omega arith; possible = can_go_on st stood; holds = holds_it st }
-run_ends alone connects [] (point ∷ points) left told s st stood fit few run calm honest = absurd run
-run_ends alone connects (line ∷ lines) [] left told s st stood fit few run calm honest = absurd run
-run_ends {k = k} {id = id} alone connects (line ∷ lines) (point ∷ points) left told s st stood fit few run (more one others) honest =
+pub run_ends : {k : ℕ} {id : Record} → SaysAlone → ConnectsBear → (past : List Happening) (lines : List TrackLine) (points : List Point) (left : ℕ) (told : Bool) (s : LineState) → Stage k id left told s → StoodBy past s → AllByRecursion IsFitTrack lines → IsShort s points → IsRun s lines points → AreUndisturbed k lines → has_lie points ≡ false → AreNewcomers past lines points → Ends left k id told s lines points
+run_ends alone connects past [] [] left told s st stood fit few run calm honest new = record { few = omega arith; possible = can_go_on st stood.stood; holds = holds_it st }
+run_ends alone connects past [] (point ∷ points) left told s st stood fit few run calm honest new = absurd run
+run_ends alone connects past (line ∷ lines) [] left told s st stood fit few run calm honest new = absurd run
+run_ends {k = k} {id = id} alone connects past (line ∷ lines) (point ∷ points) left told s st stood fit few run (more one others) honest new =
     let here : s.lines + 1 ≤ 1000000 = few.0 in
     let first : tells_lie point.told ≡ false = (or_parts (tells_lie point.told) (has_lie points) honest).0 in
-    let after : Stood point.after = track_stood alone connects (s.lines + 1) line s point.after point.told refl here fit.0 first stood run.0 in
+    let after : StoodBy (past ++ point.told) point.after = track_stood alone connects (s.lines + 1) past line s point.after point.told refl here fit.0 new.0 first stood run.0 in
     let behind : IsShort point.after points = few.1 in
-    by_outcome line lines point points (can_go_on st stood) (holds_it st) (track_line alone point.told line one here st stood after run.0)
-    (λ now stage. run_ends alone connects lines points now (told || tells_settled k id.id point.told) point.after stage after fit.1 behind run.1 others (or_parts (tells_lie point.told) (has_lie points) honest).1)
+    by_outcome line lines point points (can_go_on st stood.stood) (holds_it st) (track_line alone point.told line one here st stood.stood after.stood run.0)
+    (λ now stage. run_ends alone connects (past ++ point.told) lines points now (told || tells_settled k id.id point.told) point.after stage after fit.1 behind run.1 others (or_parts (tells_lie point.told) (has_lie points) honest).1 new.1)

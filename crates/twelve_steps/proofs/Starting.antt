@@ -1,5 +1,5 @@
 -- A STATE THAT IS ANNOUNCED has twelve link steps left, and the law.
-use Rattle.std.proofs.Common.{Bool, List, None, Option, Some, [], ap, append-nil, arith, false, length, refl, subst, sym, take, true, ℕ, ◌++◌, ◌+◌, ◌-◌, ◌∙◌, ◌∷◌, ◌≡◌, ◌≤◌}
+use Rattle.std.proofs.Common.{Bool, List, None, Option, Some, [], ap, append-nil, append_assoc, arith, false, length, refl, subst, sym, take, true, ℕ, ◌++◌, ◌+◌, ◌-◌, ◌∙◌, ◌∷◌, ◌≡◌, ◌≤◌}
 use Rattle.std.proofs.lemmas.List.{take-append-drop}
 use Rattle.std.specs.List.{AllByRecursion}
 use Rattle.std.specs.Prelude.{is_some, slice_get}
@@ -43,7 +43,9 @@ use Rattle.link_messages.specs.Heard.{bodies}
 use Rattle.line_step.specs.Lies.{has_lie, tells_lie}
 use Rattle.line_step.specs.Numbered.{node_at}
 use Rattle.line_step.specs.Reasons.{has_link}
-use Rattle.line_step.specs.Runs.{IsRun, Point, state_behind, IsShort}
+use Rattle.line_report.specs.declared.happening.Happening.{Happening}
+use Rattle.line_step.specs.Homes.{AreNewcomers}
+use Rattle.line_step.specs.Runs.{IsRun, Point, all_told, state_behind, IsShort}
 use Rattle.line_step.specs.State.{LineState, no_line}
 use Rattle.line_step.specs.World.{link_at}
 use Rattle.one_standing.specs.Places.{at_machine, lies_at}
@@ -52,7 +54,7 @@ use Rattle.one_standing.specs.Carried.{Carries, between_of, stand_of, carries_ov
 use Rattle.one_standing.specs.Standing.{IsFitTrack}
 use Rattle.one_standing.proofs.Carrying.{SaysAlone}
 use Rattle.one_standing.proofs.LineForms.{ConnectsBear}
-use Rattle.one_standing.proofs.LineRun.{Stood, track_stood, none_stood}
+use Rattle.one_standing.proofs.LineRun.{Stood, StoodBy, track_stood, none_stood}
 use Rattle.one_standing.proofs.RestMore.{no_link_at}
 use Rattle.line_history.proofs.OfferedRun.{none_are_offered}
 use Rattle.twelve_steps.specs.Announced.{AreInFlight, AreTextsOf, IsAnnounced, IsTextOf, heard, in_flight, more_texts, no_texts}
@@ -249,16 +251,18 @@ announced_stage {k = k} {id = id} {s = s} alone stood heeds is =
 
 -- ---- along the script
 
-behind_stood : SaysAlone → ConnectsBear → (asked : List TrackLine) (points : List Point) (s : LineState) → Stood s → AllByRecursion IsFitTrack asked → IsShort s points → IsRun s asked points → has_lie points ≡ false → Stood (state_behind s points)
-behind_stood alone connects [] [] s stood fit few run honest = stood
-behind_stood alone connects [] (point ∷ points) s stood fit few run honest = absurd run
-behind_stood alone connects (line ∷ asked) [] s stood fit few run honest = absurd run
-behind_stood alone connects (line ∷ asked) (point ∷ points) s stood fit few run honest =
+behind_stood : SaysAlone → ConnectsBear → (past : List Happening) (asked : List TrackLine) (points : List Point) (s : LineState) → StoodBy past s → AllByRecursion IsFitTrack asked → IsShort s points → IsRun s asked points → has_lie points ≡ false → AreNewcomers past asked points
+    → StoodBy (past ++ all_told points) (state_behind s points)
+behind_stood alone connects past [] [] s stood fit few run honest new = subst (λ (hs : List Happening). StoodBy hs s) (sym (append-nil past)) stood
+behind_stood alone connects past [] (point ∷ points) s stood fit few run honest new = absurd run
+behind_stood alone connects past (line ∷ asked) [] s stood fit few run honest new = absurd run
+behind_stood alone connects past (line ∷ asked) (point ∷ points) s stood fit few run honest new =
     let here : s.lines + 1 ≤ 1000000 = few.0 in
     let first : tells_lie point.told ≡ false = (or_parts (tells_lie point.told) (has_lie points) honest).0 in
-    let after : Stood point.after = track_stood alone connects (s.lines + 1) line s point.after point.told refl here fit.0 first stood run.0 in
+    let after : StoodBy (past ++ point.told) point.after = track_stood alone connects (s.lines + 1) past line s point.after point.told refl here fit.0 new.0 first stood run.0 in
     let behind : IsShort point.after points = few.1 in
-    behind_stood alone connects asked points point.after after fit.1 behind run.1 (or_parts (tells_lie point.told) (has_lie points) honest).1
+    subst (λ (hs : List Happening). StoodBy hs (state_behind point.after points)) (append_assoc past point.told (all_told points))
+    (behind_stood alone connects (past ++ point.told) asked points point.after after fit.1 behind run.1 (or_parts (tells_lie point.told) (has_lie points) honest).1 new.1)
 
 fit_front : (asked stretch : List TrackLine) → AllByRecursion IsFitTrack (asked ++ stretch) → AllByRecursion IsFitTrack asked × AllByRecursion IsFitTrack stretch
 fit_front [] stretch fit = (tt, fit)
@@ -273,17 +277,17 @@ front_same kept a board first found =
 
 -- THE LAW
 pub twelve_steps : SaysAlone → ConnectsBear → EndsWithinTwelveSteps
-twelve_steps alone connects asked stretch earlier points k id fit few short run honest then_run calm then_honest is =
+twelve_steps alone connects asked stretch earlier points k id fit few short run honest new then_run calm then_honest then_new is =
     let fits = fit_front asked stretch fit in
-    let stood : Stood (state_behind no_line earlier) = behind_stood alone connects asked earlier no_line none_stood fits.0 few run honest in
+    let stood : StoodBy (all_told earlier) (state_behind no_line earlier) = behind_stood alone connects [] asked earlier no_line none_stood fits.0 few run honest new in
     let heeds : HeedsAll (state_behind no_line earlier) = run_heeds asked earlier no_line none_heeds run in
     let s : LineState = state_behind no_line earlier in
     let front = first_of (node_at s k).lane.body.kept id is.front in
-    let ends : Ends 12 k front.0 false s stretch points = run_ends alone connects stretch points 12 false s (announced_stage alone stood heeds is) stood fits.1 short then_run calm then_honest in
+    let ends : Ends 12 k front.0 false s stretch points = run_ends alone connects (all_told earlier) stretch points 12 false s (announced_stage alone stood.stood heeds is) stood fits.1 short then_run calm then_honest then_new in
     record {
       few = subst (λ (n : ℕ). steps_to_end k n false s stretch points ≤ 12) front.2 ends.few;
       possible = subst (λ (n : ℕ). CanGoOnToEnd k n false s points) front.2 ends.possible;
       held = λ board found. subst (λ (r : Record). HoldsItToEnd k r false s points) (front_same (node_at s k).lane.body.kept front.0 board front.1 found) ends.holds;
       kept = λ board found. subst (λ (r : Record). KeepsItToEnd k r false points) (front_same (node_at s k).lane.body.kept front.0 board front.1 found)
-          (run_keeps alone connects k front.0 stretch points false s stood (behind_offered alone connects asked earlier no_line none_stood none_are_offered fits.0 few run honest) fits.1 short then_run calm then_honest ends.holds);
+          (run_keeps alone connects k front.0 (all_told earlier) stretch points false s stood (behind_offered alone connects [] asked earlier no_line none_stood none_are_offered fits.0 few run honest new) fits.1 short then_run calm then_honest then_new ends.holds);
     }

@@ -32,6 +32,7 @@ use Rattle.node_core.specs.Node.{NodeState, new_body}
 use Rattle.line_script.specs.declared.line.ScriptLine.{ScriptLine}
 use Rattle.line_script.specs.declared.line.ScriptLine.TheVariants as lines
 use Rattle.line_step.specs.Lies.{has_lie}
+use Rattle.line_step.specs.Requests.{request_of}
 use Rattle.line_step.specs.Tracks.{own_line}
 use Rattle.line_step.specs.Runs.{IsRun, Point, state_behind}
 use Rattle.line_step.specs.State.{LineState, machine_text, no_line}
@@ -142,7 +143,7 @@ first_lines =
 -- gap 1 and that board
 pub record IsReachedAnnounced : Type 0 where
   pub points : List Point
-  pub run : IsRun no_line (map own_line first_lines) points
+  pub run : IsRun no_line (map (λ line. own_line (request_of line)) first_lines) points
   pub honest : has_lie points ≡ false
   pub leads : state_behind no_line points ≡ announced_line
   pub announced : IsAnnounced announced_line 1 first_board

@@ -14,10 +14,11 @@ use Rattle.line_report.specs.declared.happening.Happening.{Happening}
 use Rattle.line_report.specs.declared.happening.Happening.TheVariants as happenings
 use Rattle.node_core.specs.declared.act.Act.TheVariants as acts
 use Rattle.node_core.specs.declared.act.Deed.TheVariants as deeds
+use Rattle.line_step.specs.Homes.{AreNewcomers}
 use Rattle.line_step.specs.Lies.{has_lie}
 use Rattle.line_step.specs.Numbered.{node_at}
 use Rattle.line_step.specs.Tracks.{TrackLine, asked_on}
-use Rattle.line_step.specs.Runs.{IsRun, Point, state_behind, IsShort}
+use Rattle.line_step.specs.Runs.{IsRun, IsShort, Point, all_told, state_behind}
 use Rattle.line_step.specs.State.{LineState, no_line}
 use Rattle.one_standing.specs.Standing.{IsFitTrack}
 use Rattle.line_history.specs.Offered.{IsLast}
@@ -107,14 +108,16 @@ pub record EndsWithin (most k id : ℕ) (s : LineState) (lines : List TrackLine)
       → KeepsItToEnd k board false points
 
 -- THE LAW: it holds of each state that a script reaches whose lines told no lie and let no board
--- come or go unseen, and of each undisturbed stretch of lines that follows. A script has at most
+-- come or go unseen, and of each undisturbed stretch of lines that follows. Boards that come from
+-- another lane come to where they aren't at home. A script has at most
 -- 1,000,000 lines, and its barcodes are texts
 abbrev pub EndsWithinTwelveSteps : Type 0
 EndsWithinTwelveSteps =
     (asked stretch : List TrackLine) (earlier points : List Point) (k id : ℕ)
     → AllByRecursion IsFitTrack (asked ++ stretch) → IsShort no_line earlier
     → IsShort (state_behind no_line earlier) points
-    → IsRun no_line asked earlier → has_lie earlier ≡ false
+    → IsRun no_line asked earlier → has_lie earlier ≡ false → AreNewcomers [] asked earlier
     → IsRun (state_behind no_line earlier) stretch points → AreUndisturbed k stretch
-    → has_lie points ≡ false → IsAnnounced (state_behind no_line earlier) k id
+    → has_lie points ≡ false → AreNewcomers (all_told earlier) stretch points
+    → IsAnnounced (state_behind no_line earlier) k id
     → EndsWithin 12 k id (state_behind no_line earlier) stretch points

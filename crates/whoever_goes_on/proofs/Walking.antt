@@ -4,7 +4,7 @@ use Rattle.std.specs.List.{AllByRecursion}
 use Rattle.std.specs.Prelude.{if◌then◌else◌}
 use Rattle.std.proofs.lemmas.List.{length-take-le}
 use Rattle.line_step.specs.Tracks.{TrackLine, asked_on, own_line}
-use Rattle.line_step.specs.Runs.{IsRun, Point, state_behind}
+use Rattle.line_step.specs.Runs.{IsRun, Point, all_told, state_behind}
 use Rattle.line_step.proofs.Running.{run-short}
 use Rattle.line_step.specs.State.{LineState, no_line}
 use Rattle.line_step.proofs.Numbers.{beyond_or_not}
@@ -14,7 +14,7 @@ use Rattle.one_standing.specs.Standing.{IsFitTrack}
 use Rattle.twelve_steps.specs.Twelve.{CanGoOnToEnd, EndsWithin, EndsWithinTwelveSteps, Unless, has_ended, one_if, steps_to_end, tells_settled}
 use Rattle.twelve_steps.specs.Undisturbed.{CanGoOn, IsPossible, is_link_step, is_of_link}
 use Rattle.whoever_goes_on.specs.Play.{AreEnabled, EndsBy, EndsForWhoeverGoesOn, GoesOn, HasEnding, HasOneMore, IsPlay}
-use Rattle.whoever_goes_on.proofs.Doing.{play_calm, play_fit, play_honest, step_is}
+use Rattle.whoever_goes_on.proofs.Doing.{line_comes, play_calm, play_fit, play_honest, play_newcomers, step_is}
 
 -- ---- how many link steps a play has
 
@@ -112,10 +112,10 @@ enabled_more k s (first ∷ asked) (at ∷ points) line point run enabled is can
 abbrev point_of : {k : ℕ} {s : LineState} → HasOneMore k s → Point
 point_of more = record { told = more.has.told; after = more.has.after }
 
-play_more : (k : ℕ) (s : LineState) (asked : List TrackLine) (points : List Point) (more : HasOneMore k (state_behind s points)) → IsPlay k s asked points → IsPlay k s (asked ++ own_line more.line ∷ []) (points ++ point_of more ∷ [])
+play_more : (k : ℕ) (s : LineState) (asked : List TrackLine) (points : List Point) (more : HasOneMore k (state_behind s points)) → IsPlay k s asked points → IsPlay k s (asked ++ own_line more.request ∷ []) (points ++ point_of more ∷ [])
 play_more k s asked points more play = record {
-  run = run-append s asked (own_line more.line ∷ []) points (point_of more ∷ []) play.run (more.has.steps, tt);
-  enabled = enabled_more k s asked points (own_line more.line) (point_of more) play.run play.enabled more.is_step more.possible;
+  run = run-append s asked (own_line more.request ∷ []) points (point_of more ∷ []) play.run ((more.has.steps, line_comes k (state_behind s points) more.request (state_behind s points) more.is_step), tt);
+  enabled = enabled_more k s asked points (own_line more.request) (point_of more) play.run play.enabled more.is_step more.possible;
 }
 
 play_front : (n k : ℕ) (s : LineState) (asked : List TrackLine) (points : List Point) → IsRun s asked points → AreEnabled k s asked points → IsPlay k s (take n asked) (take n points)
@@ -141,15 +141,15 @@ abbrev OfPlays : ℕ → ℕ → LineState → Type 0
 OfPlays k id s = (asked : List TrackLine) (points : List Point) → length asked ≤ 13 → IsPlay k s asked points → EndsWithin 12 k id s asked points
 
 one_more : (k : ℕ) (s : LineState) → CanGoOn k s → HasOneMore k s
-one_more k s can = record { line = can.line; is_step = can.is_step; possible = can.possible; has = each_line (s.lines + 1) can.line s }
+one_more k s can = record { request = can.request; is_step = can.is_step; possible = can.possible; has = each_line (s.lines + 1) can.request s }
 
 open_goes_on : (k id : ℕ) (s : LineState) (asked : List TrackLine) (points : List Point) → OfPlays k id s → length asked ≤ 12 → IsPlay k s asked points → AreOpen k id false points → GoesOn 12 k s asked points
 open_goes_on k id s asked points of_plays short play still =
     let more = one_more k (state_behind s points) (can_behind k id false s points still (of_plays asked points (omega arith) play).possible) in
     let longer = play_more k s asked points more play in
-    let longer_by = length-append asked (own_line more.line ∷ []) in
-    let few = (of_plays (asked ++ own_line more.line ∷ []) (points ++ point_of more ∷ []) (omega (arith, longer_by)) longer).few in
-    let counted = more_count k id false s asked points (own_line more.line) (point_of more) still longer.run longer.enabled play.run in
+    let longer_by = length-append asked (own_line more.request ∷ []) in
+    let few = (of_plays (asked ++ own_line more.request ∷ []) (points ++ point_of more ∷ []) (omega (arith, longer_by)) longer).few in
+    let counted = more_count k id false s asked points (own_line more.request) (point_of more) still longer.run longer.enabled play.run in
     record { few = omega (arith, few, counted); more = more }
 
 walked_ends : (k id : ℕ) (s : LineState) (asked : List TrackLine) (points : List Point) → OfPlays k id s → length asked ≤ 12 → IsPlay k s asked points → Walked k id false s asked points
@@ -191,7 +191,7 @@ reach zero k id s asked points of_plays play counted =
     reach_by zero k id s asked points of_plays play counted (λ more few. absurd (omega (arith, few, counted))) (each_play k id s of_plays asked points play)
 reach (suc fuel) k id s asked points of_plays play counted =
     reach_by (suc fuel) k id s asked points of_plays play counted
-    (λ more few. reach fuel k id s (asked ++ own_line more.line ∷ []) (points ++ point_of more ∷ []) of_plays (play_more k s asked points more play) (longer_by fuel asked (own_line more.line) counted))
+    (λ more few. reach fuel k id s (asked ++ own_line more.request ∷ []) (points ++ point_of more ∷ []) of_plays (play_more k s asked points more play) (longer_by fuel asked (own_line more.request) counted))
     (each_play k id s of_plays asked points play)
 
 -- ---- the law
@@ -201,11 +201,11 @@ fit_both [] others one two = two
 fit_both (line ∷ asked) others one two = (one.0, fit_both asked others one.1 two)
 
 pub whoever_ends : EndsWithinTwelveSteps → EndsForWhoeverGoesOn
-whoever_ends law asked earlier k id fit short few run honest announced =
+whoever_ends law asked earlier k id fit short few run honest new announced =
     let s = state_behind no_line earlier in
     let of_plays : OfPlays k id s =
-    λ lines points brief play. law asked lines earlier points k id (fit_both asked lines fit (play_fit k s lines points play.enabled)) short (run-short s lines points play.run (omega (arith, few, brief))) run honest play.run (play_calm k s lines points play.enabled)
-    (play_honest k s lines points play.run play.enabled) announced in
+    λ lines points brief play. law asked lines earlier points k id (fit_both asked lines fit (play_fit k s lines points play.enabled)) short (run-short s lines points play.run (omega (arith, few, brief))) run honest new play.run (play_calm k s lines points play.enabled)
+    (play_honest k s lines points play.run play.enabled) (play_newcomers k s (all_told earlier) lines points play.enabled) announced in
     record {
       ends = each_play k id s of_plays;
       some = reach 12 k id s [] [] of_plays (record { run = tt; enabled = tt }) refl;

@@ -6,8 +6,9 @@
 -- speaks `EndsWithinTwelveSteps`.
 use Rattle.std.specs.Prelude.{Bool, List, [], false, length, suc, true, zero, ℕ, ◌+◌, ◌<◌, ◌∷◌, ◌≡◌, ◌⊎◌, ◌||◌}
 use Rattle.std.specs.List.{AllByRecursion}
-use Rattle.line_script.specs.declared.line.ScriptLine.{ScriptLine}
+use Rattle.line_step.specs.Homes.{AreNewcomers}
 use Rattle.line_step.specs.Lies.{has_lie}
+use Rattle.line_step.specs.Requests.{Request}
 use Rattle.line_step.specs.Tracks.{TrackLine, asked_on}
 use Rattle.line_step.specs.Runs.{IsRun, Point, state_behind, IsShort}
 use Rattle.line_step.specs.State.{LineState, no_line}
@@ -42,10 +43,10 @@ EndsBy (suc most) k id settled (point ∷ points) =
 -- one more line can be done in this state: a link step of k, against which no reason stands, and
 -- which has a step
 pub record HasOneMore (k : ℕ) (s : LineState) : Type 0 where
-  pub line : ScriptLine
-  pub is_step : is_of_link k s line ≡ true
-  pub possible : IsPossible s line
-  pub has : HasStep (s.lines + 1) line s
+  pub request : Request
+  pub is_step : is_of_link k s request ≡ true
+  pub possible : IsPossible s request
+  pub has : HasStep (s.lines + 1) request s
 
 -- a play that ended the handover
 pub record HasEnding (most k id : ℕ) (s : LineState) : Type 0 where
@@ -66,11 +67,11 @@ pub record WhoeverGoesOn (most k id : ℕ) (s : LineState) : Type 0 where
   pub some : HasEnding most k id s
 
 -- THE LAW: it holds of each state that a script reaches whose lines told no lie and let no board
--- come or go unseen. A script has at most 1,000,000 lines, and its barcodes are texts
+-- come or go unseen, and to whose track boards came where they weren't at home. A script has at most 1,000,000 lines, and its barcodes are texts
 abbrev pub EndsForWhoeverGoesOn : Type 0
 EndsForWhoeverGoesOn =
     (asked : List TrackLine) (earlier : List Point) (k id : ℕ) → AllByRecursion IsFitTrack asked
     → IsShort no_line earlier → (state_behind no_line earlier).lines + 12 < 1000000
-    → IsRun no_line asked earlier → has_lie earlier ≡ false
+    → IsRun no_line asked earlier → has_lie earlier ≡ false → AreNewcomers [] asked earlier
     → IsAnnounced (state_behind no_line earlier) k id
     → WhoeverGoesOn 12 k id (state_behind no_line earlier)

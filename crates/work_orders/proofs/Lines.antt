@@ -55,7 +55,7 @@ use Rattle.work_orders.specs.Answers.{
 use Rattle.work_orders.proofs.Steps.{NoAnswer, answer_once, none_kept, none_silent}
 use Rattle.work_orders.proofs.Told.{Silent, answers_join, both_silent, no_acts_silent, remarks_silent}
 use Rattle.line_step.proofs.Remarks.{all_pass, standings_remarks}
-use Rattle.line_step.proofs.Requests.{Request, added_told, may_get, request_of}
+use Rattle.line_step.specs.Requests.{Request, added_told, may_get}
 use Rattle.line_step.proofs.Effects.{added_remarks}
 use Rattle.line_step.proofs.Turns.{LineTurns, line_turns}
 use Rattle.line_step.proofs.Turns as turns
@@ -160,12 +160,12 @@ last_kept [] new (suc place) query none = refl
 last_kept (node ∷ nodes) new zero query none = refl
 last_kept (node ∷ nodes) new (suc place) query none = last_kept nodes new place query none
 
-more_kept : (is_bridge : Bool) (capacity used : ℕ) (s : LineState)
-    → KeepSame s (one_more is_bridge capacity used s)
-more_kept is_bridge capacity used s zero query = refl
-more_kept is_bridge capacity used s (suc place) query =
+more_kept : (lane : ℕ) (is_bridge : Bool) (capacity used : ℕ) (s : LineState)
+    → KeepSame s (one_more lane is_bridge capacity used s)
+more_kept lane is_bridge capacity used s zero query = refl
+more_kept lane is_bridge capacity used s (suc place) query =
     last_kept s.machines
-    (new_node (profile_of is_bridge (length s.machines + 1) capacity used)) place query
+    (new_node (profile_of lane is_bridge (length s.machines + 1) capacity used)) place query
     (none_asked (query == 0) (query - 1))
 
 -- ---- the turns
@@ -193,10 +193,10 @@ turn_once number request before next told (turns.stays _ same none) at asked =
       silent = all_pass told no_acts_silent none;
     })
     at asked
-turn_once number request before next told (turns.adds is_bridge capacity used may b) at asked =
+turn_once number request before next told (turns.adds lane is_bridge capacity used may b) at asked =
     quiet_once before next told
-    (becomes_quiet before (one_more is_bridge capacity used before) next
-    (added_told is_bridge capacity before) told b (more_kept is_bridge capacity used before)
+    (becomes_quiet before (one_more lane is_bridge capacity used before) next
+    (added_told is_bridge capacity before) told b (more_kept lane is_bridge capacity used before)
     (remarks_silent (added_told is_bridge capacity before)
     (added_remarks is_bridge capacity before)))
     at asked
@@ -220,7 +220,7 @@ counted_by before next lines machine query (word ∷ []) gets =
 counted_by before next lines machine query (_ ∷ (_ ∷ _)) never = absurd never
 
 pub line_once : EachLineAnswersOnce
-line_once number line before after told steps =
+line_once number request before after told steps =
     let next : LineState = steps.next in
     let counted : LineState = record next { lines = steps.lines } in
     once_of before after told (λ machine query.
@@ -233,8 +233,8 @@ line_once number line before after told steps =
     (remarks_silent (standings_told before next) (standings_remarks before next) machine query)
     ∙ append-nil (answers_of machine query steps.done)))
     (counted_by before next steps.lines machine query (answers_of machine query steps.done)
-    (turn_once number (request_of line) before next steps.done
-    (line_turns number line before next steps.done steps.does) machine query))))
+    (turn_once number request before next steps.done
+    (line_turns number request before next steps.done steps.does) machine query))))
 
 -- ---- a track
 
@@ -260,8 +260,8 @@ beside_kept before after (suc place) query is =
 pub track_once : (number : ℕ) (line : TrackLine) (before after : LineState)
     (told : List Happening) → TrackSteps number line before after told
     → AnswersOnce before after told
-track_once number (own_line line) before after told steps =
-    line_once number line before after told steps
+track_once number (own_line request) before after told steps =
+    line_once number request before after told steps.0
 track_once number other_line before after told steps =
     once_of before after told (λ machine query.
     subst (λ (words : List (List ℕ)). Answers before after machine query words)

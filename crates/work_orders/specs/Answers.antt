@@ -19,13 +19,13 @@ use Rattle.std.specs.Prelude.{
   is_some,
   option_and_then,
 }
-use Rattle.line_script.specs.declared.line.ScriptLine.{ScriptLine}
 use Rattle.supervisory_core.specs.declared.order.Order.{Order}
 use Rattle.supervisory_core.specs.Orders.{answer_to, order_numbered}
 use Rattle.node_core.specs.declared.act.Act.{Act}
 use Rattle.node_core.specs.declared.act.Act.TheVariants as acts
 use Rattle.line_report.specs.declared.happening.Happening.{Happening}
 use Rattle.line_report.specs.declared.happening.Happening.TheVariants as happenings
+use Rattle.line_step.specs.Requests.{Request}
 use Rattle.line_step.specs.Lines.{LineSteps}
 use Rattle.line_step.specs.Tracks.{TrackLine}
 use Rattle.line_step.specs.Runs.{IsRun, Point, state_behind, all_told}
@@ -88,8 +88,8 @@ pub record AnswersOnce (before after : LineState) (told : List Happening) : Type
 -- THE LAW of a line: whatever its number is, and whatever was done before it
 abbrev pub EachLineAnswersOnce : Type 0
 EachLineAnswersOnce =
-    (number : ℕ) (line : ScriptLine) (before after : LineState) (told : List Happening)
-    → LineSteps number line before after told → AnswersOnce before after told
+    (number : ℕ) (request : Request) (before after : LineState) (told : List Happening)
+    → LineSteps number request before after told → AnswersOnce before after told
 
 -- ---- a run
 
