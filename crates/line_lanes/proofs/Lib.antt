@@ -1,1 +1,20 @@
-pub mod Tracks
+pub mod Once
+pub mod Places
+pub mod Growing
+pub mod Sharing
+pub mod Together
+pub mod Telling
+pub mod Floors
+pub mod Shifting
+pub mod Seen
+pub mod Forms
+pub mod Moving
+pub mod Apart
+pub mod Points
+pub mod Walk
+pub mod Home
+pub mod Along
+pub mod Stepping
+pub mod Reached
+pub mod Parted
+mod Rows

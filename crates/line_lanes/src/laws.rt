@@ -1,15 +1,84 @@
-//! What a line of the script on one track leaves of the others.
+//! What a line of several lanes is to each of them.
 
-ghost use Rattle.std.specs.Prelude.{◌≡◌, ◌≢◌, ℕ};
-ghost use Rattle.line_step.specs.State.{LineState};
-ghost use Rattle.line_step.specs.Tracks.{IsBeside};
-ghost use Rattle.line_lanes.specs.Line.{IsTrackOf, Line, track, with_track};
+ghost use Rattle.line_lanes.specs.Along.{
+  EachFrontIsATrack,
+  EachLaneIsATrack,
+  EachLaneLineHasAStep,
+  EachRecordIsOnOneLane,
+  FloorsApart,
+  IdsOnLanes,
+  IsLaneReached,
+  OneLaneAlong,
+  OneStandingOnLanes,
+  RunsGoOn,
+  StandsOnLanes,
+  TracksAlong,
+};
+ghost use Rattle.line_lanes.specs.Lanes.{no_lanes};
+ghost use Rattle.line_lanes.specs.Reached.{EachPartIsReached};
 
-/// The state that a line of the script leaves of one track is put back into the line: then it is
-/// that lane's track, and each other lane's track is as a line of another track leaves it.
-pub fn a_track_is_put_back()
-    ensures own { (lane : ℕ) (t : LineState) (s : Line) → IsTrackOf lane t s
-        → track lane (with_track lane t s) ≡ t }
-    ensures other { (lane other : ℕ) (t : LineState) (s : Line) → other ≢ lane
-        → IsTrackOf lane t s → IsBeside (track other s) (track other (with_track lane t s)) }
+/// The run of a script over several lanes is on each of them the run of a track, up to the first lie
+/// a fit one to which boards come only from other lanes. So far each board on each lane has one
+/// standing there, the custody facts hold on each, and no record is on two lanes.
+pub fn each_lane_is_a_track()
+    ensures tracks { EachLaneIsATrack }
+    ensures fronts { EachFrontIsATrack }
+    ensures one_lane { EachRecordIsOnOneLane }
+    ensures standing { OneStandingOnLanes }
+{
+    link_messages::laws::the_words_of_a_piece_are_the_oldest_messages();
+    link_messages::laws::a_frame_with_a_nul_is_a_wrong_word();
+    link_messages::laws::fit_messages_are_sayable();
+    link_messages::laws::the_words_of_fit_messages_are_fit();
+    link_messages::laws::the_words_behind_a_nul_are_fit();
+}
+
+/// The same of a state that the run of a script over several lanes has led to: a run of a track has
+/// led to each lane; and while no line told what was not so, each board on each lane has one
+/// standing there, the custody facts hold, and no record is on two lanes. And in any case no two
+/// boards share an id, on one lane or on two, and each id was made by a machine of the line.
+pub fn what_a_run_over_lanes_leads_to()
+    ensures tracks { TracksAlong }
+    ensures one_lane { OneLaneAlong }
+    ensures standing { StandsOnLanes }
+    ensures ids { IdsOnLanes }
+    ensures apart { FloorsApart }
+{
+    link_messages::laws::the_words_of_a_piece_are_the_oldest_messages();
+    link_messages::laws::a_frame_with_a_nul_is_a_wrong_word();
+    link_messages::laws::fit_messages_are_sayable();
+    link_messages::laws::the_words_of_fit_messages_are_fit();
+    link_messages::laws::the_words_behind_a_nul_are_fit();
+    one_standing::laws::what_a_run_leads_to();
+}
+
+/// The run of a script over several lanes begins with a line without a machine, and goes on behind
+/// each of its lines, up to 1,000,000 of them.
+pub fn a_run_over_lanes_goes_on()
+    ensures first { IsLaneReached no_lanes }
+    ensures more { RunsGoOn }
 {}
+
+/// Each line of a script over several lanes has a step from each state that the run of one has led
+/// to: the state after it, and what is told.
+pub fn each_line_on_lanes_has_a_step()
+    ensures { EachLaneLineHasAStep }
+{
+    link_messages::laws::the_words_of_a_piece_are_the_oldest_messages();
+    link_messages::laws::a_frame_with_a_nul_is_a_wrong_word();
+    link_messages::laws::fit_messages_are_sayable();
+    link_messages::laws::the_words_of_fit_messages_are_fit();
+    link_messages::laws::the_words_behind_a_nul_are_fit();
+}
+
+/// And of each state of the next line of the script, of the one before it and of that behind each of
+/// its parts: a run of a track has led to each lane.
+pub fn each_part_is_reached()
+    ensures { EachPartIsReached }
+{
+    link_messages::laws::the_words_of_a_piece_are_the_oldest_messages();
+    link_messages::laws::a_frame_with_a_nul_is_a_wrong_word();
+    link_messages::laws::fit_messages_are_sayable();
+    link_messages::laws::the_words_of_fit_messages_are_fit();
+    link_messages::laws::the_words_behind_a_nul_are_fit();
+}
