@@ -31,13 +31,13 @@ Fit (Err why) = Unit {0}
 -- ---- each form
 
 made_machine : (values : List Value) → Fit (grammar.made_machine values)
-made_machine (numeral capacity ∷ []) = tt
-made_machine (numeral capacity ∷ spelled used ∷ numeral count ∷ []) = tt
+made_machine (numeral capacity ∷ []) = omega arith
+made_machine (numeral capacity ∷ spelled used ∷ numeral count ∷ []) = omega arith
 made_machine _ = tt
 
 made_bridge : (values : List Value) → Fit (grammar.made_bridge values)
-made_bridge (numeral capacity ∷ []) = tt
-made_bridge (numeral capacity ∷ spelled used ∷ numeral count ∷ []) = tt
+made_bridge (numeral capacity ∷ []) = omega arith
+made_bridge (numeral capacity ∷ spelled used ∷ numeral count ∷ []) = omega arith
 made_bridge _ = tt
 
 made_remove : (values : List Value) → Fit (grammar.made_remove values)

@@ -6,6 +6,7 @@ use Rattle.line_script.specs.declared.line.ScriptLine.TheVariants as lines
 use Rattle.line_report.specs.declared.happening.Happening.{Happening}
 use Rattle.node_core.specs.Node.{NodeState}
 use Rattle.standings.specs.Marks.{Owned, has_id, marks_of}
+use Rattle.line_step.specs.Requests.{request_of}
 use Rattle.line_step.specs.Lines.{LineDoes}
 use Rattle.line_step.specs.Named.{ids_named}
 use Rattle.line_step.specs.State.{LineState, owned, owned_by}
@@ -24,16 +25,16 @@ named_by : (first last : ℕ) (before now : List Owned) (ids : List ℕ) (id : �
 named_by first last before now ids id h (inl same) has = patched_is first last before now id h same
 named_by first last before now ids id h (inr none) has = absurd (false≢true (sym (ap (has_id id) none) ∙ has))
 
-pub follows : (number : ℕ) (line : ScriptLine) (before next : LineState) (done : List Happening) → LineDoes number line before next done
+pub follows : (number : ℕ) (line : ScriptLine) (before next : LineState) (done : List Happening) → LineDoes number (request_of line) before next done
     → Follows (first_stepped line) (last_stepped line) (ids_named done) (owned before) (owned next)
 follows number line before next done does = record {
   named = λ id has. named_by (first_stepped line) (last_stepped line) (owned before) (owned next) (ids_named done) id (ordered line) (restores number line before next done does) has;
-  others = λ id none. line_stays id number line before next done does none;
+  others = λ id none. line_stays id number (request_of line) before next done does none;
 }
 
 -- the same, of the span that the code found
 pub follows_as : (number : ℕ) (line : ScriptLine) (before next : LineState) (done : List Happening) (first last : ℕ) (machines : List NodeState) → first ≡ first_stepped line → last ≡ last_stepped line → machines ≡ next.machines
-    → LineDoes number line before next done → Follows first last (ids_named done) (owned before) (map owned_by machines)
+    → LineDoes number (request_of line) before next done → Follows first last (ids_named done) (owned before) (map owned_by machines)
 follows_as number line before next done first last machines first_is last_is machines_are does =
     subst (λ (f : ℕ). Follows f last (ids_named done) (owned before) (map owned_by machines)) (sym first_is)
     (subst (λ (l : ℕ). Follows (first_stepped line) l (ids_named done) (owned before) (map owned_by machines)) (sym last_is)

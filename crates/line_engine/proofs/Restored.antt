@@ -15,9 +15,9 @@ use Rattle.line_step.specs.Lines.{Connects, LineDoes, arrived, connecting}
 use Rattle.line_step.proofs.Ascending.{choose_true}
 use Rattle.line_report.specs.declared.happening.Happening.{Happening}
 use Rattle.line_engine.specs.Stepped.{first_stepped, last_stepped, owned_between}
-use Rattle.line_step.proofs.Requests.{Request, added_told, request_of}
+use Rattle.line_step.specs.Requests.{Request, added_told, request_of}
 use Rattle.line_step.proofs.Turns.{LineTurns, line_turns}
-use Rattle.line_step.proofs.Requests as requests
+use Rattle.line_step.specs.Requests as requests
 use Rattle.line_step.proofs.Turns as turns
 
 -- ---- what machines had, put back
@@ -129,14 +129,14 @@ last_is _ = refl
 turn_restores : (number : ℕ) (request : Request) (before after : LineState) (told : List Happening) → LineTurns number before after told request → Restores (first_asked request) (last_asked request) before after ⊎ (ids_named told ≡ [])
 turn_restores number request before after told (turns.stays _ same none) =
     inl (ap (λ (line : List Owned). owned_with (first_asked request) (owned_between (first_asked request) (last_asked request) (owned before)) line) (ap (map owned_by) same) ∙ restored_none (first_asked request) (last_asked request) (owned before))
-turn_restores number request before after told (turns.adds is_bridge capacity used may b) = inr (ap ids_named b.told_is ∙ added_none is_bridge capacity before)
+turn_restores number request before after told (turns.adds lane is_bridge capacity used may b) = inr (ap ids_named b.told_is ∙ added_none is_bridge capacity before)
 turn_restores number request before after told (turns.steps machine input given may did) = inl (one_step number machine input before before after told refl did)
 turn_restores number request before after told (turns.connects machine may did) = inl (connects number machine before after told did)
 turn_restores number request before after told (turns.flows machine side count may did) = inl (one_step number machine _ before (arrived machine side count before) after told refl did.steps)
 
 -- what the line of a new machine tells names no id; all others restore what was
-pub restores : (number : ℕ) (line : ScriptLine) (before after : LineState) (told : List Happening) → LineDoes number line before after told → Restores (first_stepped line) (last_stepped line) before after ⊎ (ids_named told ≡ [])
+pub restores : (number : ℕ) (line : ScriptLine) (before after : LineState) (told : List Happening) → LineDoes number (request_of line) before after told → Restores (first_stepped line) (last_stepped line) before after ⊎ (ids_named told ≡ [])
 restores number line before after told does =
     subst (λ (first : ℕ). Restores first (last_stepped line) before after ⊎ (ids_named told ≡ [])) (first_is line)
     (subst (λ (last : ℕ). Restores (first_asked (request_of line)) last before after ⊎ (ids_named told ≡ [])) (last_is line)
-    (turn_restores number (request_of line) before after told (line_turns number line before after told does)))
+    (turn_restores number (request_of line) before after told (line_turns number (request_of line) before after told does)))

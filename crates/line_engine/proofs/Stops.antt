@@ -10,13 +10,15 @@ use Rattle.line_world.specs.declared.moves.MoveNo.TheVariants as moves
 use Rattle.line_report.specs.declared.happening.Happening.{Happening}
 use Rattle.line_report.specs.declared.happening.Reason.{Reason}
 use Rattle.line_report.specs.declared.happening.Reason.TheVariants as reasons
+use Rattle.line_step.specs.Requests.{request_of}
+use Rattle.line_step.specs.Requests as requests
 use Rattle.line_step.specs.Lines.{LineSteps}
 use Rattle.line_step.specs.Parts.{ScriptLineSteps, count_behind, cut_where, entry_where, exit_where, where_may}
 use Rattle.line_step.specs.Reasons.{May, has_link, may_cut, may_do, no_if}
 use Rattle.line_step.specs.State.{LineState, most_machines}
 use Rattle.line_engine.specs.Each.{GoesOn, is_alone}
 
-alone_steps : (line : ScriptLine) (before after : LineState) (told : List Happening) → is_alone line ≡ true → after.lines ≡ before.lines + 1 → LineSteps (before.lines + 1) line before after told → ScriptLineSteps line before after told
+alone_steps : (line : ScriptLine) (before after : LineState) (told : List Happening) → is_alone line ≡ true → after.lines ≡ before.lines + 1 → LineSteps (before.lines + 1) (request_of line) before after told → ScriptLineSteps line before after told
 alone_steps (lines.Stop machine) before after told alone counted steps = cc
 alone_steps _ before after told alone counted steps = record {
   points = record { told = told; after = after } ∷ [];
@@ -25,16 +27,16 @@ alone_steps _ before after told alone counted steps = record {
   told_is = sym (append-nil told);
 }
 
-pub alone_as : (ends : Bool) (number : ℕ) (line : ScriptLine) (before after : LineState) (told : List Happening) → number ≡ before.lines + 1 → after.lines ≡ count_behind ends before.lines → LineSteps number line before after told → ends ≡ true → is_alone line ≡ true → ScriptLineSteps line before after told
+pub alone_as : (ends : Bool) (number : ℕ) (line : ScriptLine) (before after : LineState) (told : List Happening) → number ≡ before.lines + 1 → after.lines ≡ count_behind ends before.lines → LineSteps number (request_of line) before after told → ends ≡ true → is_alone line ≡ true → ScriptLineSteps line before after told
 alone_as ends number line before after told numbered counted steps ended alone =
-    alone_steps line before after told alone (counted ∙ ap (λ (b : Bool). count_behind b before.lines) ended) (subst (λ (n : ℕ). LineSteps n line before after told) numbered steps)
+    alone_steps line before after told alone (counted ∙ ap (λ (b : Bool). count_behind b before.lines) ended) (subst (λ (n : ℕ). LineSteps n (request_of line) before after told) numbered steps)
 
 -- a part of a stop behind another
-step_of : {number : ℕ} {line : ScriptLine} {before after : LineState} {told now : List Happening} → number ≡ before.lines + 1 → (g : GoesOn number line before after told now) → LineSteps (before.lines + 1) line before after g.more
-step_of {line = line} {before = before} {after = after} numbered g = subst (λ (n : ℕ). LineSteps n line before after g.more) numbered g.steps
+step_of : {number : ℕ} {line : ScriptLine} {before after : LineState} {told now : List Happening} → number ≡ before.lines + 1 → (g : GoesOn number line before after told now) → LineSteps (before.lines + 1) (request_of line) before after g.more
+step_of {line = line} {before = before} {after = after} numbered g = subst (λ (n : ℕ). LineSteps n (request_of line) before after g.more) numbered g.steps
 
 pub stop_steps : (number machine : ℕ) (s0 s1 s2 s3 s4 s5 : LineState) (t1 t2 t3 t4 t5 : List Happening)
-    → number ≡ s0.lines + 1 → LineSteps number (lines.Stop machine) s0 s1 t1
+    → number ≡ s0.lines + 1 → LineSteps number (requests.stops machine) s0 s1 t1
     → s1.lines ≡ s0.lines → s2.lines ≡ s1.lines → s3.lines ≡ s2.lines → s4.lines ≡ s3.lines → s5.lines ≡ s4.lines + 1
     → GoesOn number (cut_where (machine - 1) s1) s1 s2 t1 t2 → GoesOn number (cut_where machine s2) s2 s3 t2 t3
     → GoesOn number (entry_where machine s3) s3 s4 t3 t4 → GoesOn number (exit_where machine s4) s4 s5 t4 t5
@@ -48,7 +50,7 @@ stop_steps number machine s0 s1 s2 s3 s4 s5 t1 t2 t3 t4 t5 numbered first same1 
       points = record { told = t1; after = s1 } ∷ record { told = two.more; after = s2 } ∷ record { told = three.more; after = s3 }
           ∷ record { told = four.more; after = s4 } ∷ record { told = five.more; after = s5 } ∷ [];
       plays = (
-        record { steps = subst (λ (n : ℕ). LineSteps n (lines.Stop machine) s0 s1 t1) numbered first; counted = same1 },
+        record { steps = subst (λ (n : ℕ). LineSteps n (requests.stops machine) s0 s1 t1) numbered first; counted = same1 },
         (
           record { steps = step_of second two; counted = same2 },
           (

@@ -20,8 +20,8 @@ use Rattle.line_step.specs.Steps.{is_second, read_by}
 use Rattle.line_step.proofs.Effects.{Effect, becomes_by, line_effect}
 use Rattle.line_step.proofs.Effects as effects
 use Rattle.line_step.proofs.Remarks.{IsRemark, Passes, acts_pass, all_pass, standings_remarks}
-use Rattle.line_step.proofs.Requests.{Request, request_of}
-use Rattle.line_step.proofs.Requests as requests
+use Rattle.line_step.specs.Requests.{Request, request_of}
+use Rattle.line_step.specs.Requests as requests
 use Rattle.one_standing.specs.Reached.{Books, FollowsLine, IsBook}
 use Rattle.one_standing.specs.Replay.{IsStandingTold, deeds_of}
 use Rattle.one_standing.specs.Told.{IsTold, told_first, told_later}
@@ -149,7 +149,7 @@ IsStill _ = ⊥
 
 still_effect : (number : ℕ) (request : Request) (before next : LineState) (told : List Happening) → IsStill request → Effect number before next told request → AreUnmoved told
 still_effect number request before next told still (effects.rests _ what remarks b) = becomes_by (λ s ts. AreUnmoved ts) b (all_pass what remarks_unmoved remarks)
-still_effect number request before next told still (effects.adds is_bridge capacity used may b) = absurd still
+still_effect number request before next told still (effects.adds lane is_bridge capacity used may b) = absurd still
 still_effect number request before next told still (effects.steps m input given may did) =
     subst AreUnmoved (sym did.told_is) (acts_pass AreUnmoved (is_second input) m did.acts (read_by m before.world) remarks_unmoved (λ act. (tt, tt)))
 still_effect number request before next told still (effects.connects m may did) = absurd still
@@ -160,11 +160,11 @@ still_effect number request before next told still (effects.moves gap step floor
 still_effect number request before next told still (effects.lies m sensed may b) = absurd still
 still_effect number request before next told still (effects.unsees m side may b) = absurd still
 
-line_unmoved : (number : ℕ) (line : ScriptLine) (before after : LineState) (told : List Happening) → IsStill (request_of line) → LineSteps number line before after told → AreUnmoved told
-line_unmoved number line before after told still steps =
+line_unmoved : (number : ℕ) (request : Request) (before after : LineState) (told : List Happening) → IsStill request → LineSteps number request before after told → AreUnmoved told
+line_unmoved number request before after told still steps =
     subst AreUnmoved (sym steps.told_is)
     (both_unmoved steps.done (standings_told before steps.next)
-    (still_effect number (request_of line) before steps.next steps.done still (line_effect number line before steps.next steps.done steps.does))
+    (still_effect number request before steps.next steps.done still (line_effect number request before steps.next steps.done steps.does))
     (all_pass (standings_told before steps.next) remarks_unmoved (standings_remarks before steps.next)))
 
 record IsStillPart (part : Part) : Type 0 where
@@ -194,7 +194,7 @@ play_unmoved s [] [] still play = tt
 play_unmoved s [] (point ∷ points) still play = absurd play
 play_unmoved s (part ∷ parts) [] still play = absurd play
 play_unmoved s (part ∷ parts) (point ∷ points) still play =
-    both_unmoved point.told (all_told points) (line_unmoved (s.lines + 1) (part.line s) s point.after point.told (still.0.each s) play.0.steps)
+    both_unmoved point.told (all_told points) (line_unmoved (s.lines + 1) (request_of (part.line s)) s point.after point.told (still.0.each s) play.0.steps)
     (play_unmoved point.after parts points still.1 play.1)
 
 -- ---- of each line of a script

@@ -3,6 +3,7 @@ use Rattle.std.specs.Prelude.{◌≡◌, ◌++◌, Bool, true, false, ℕ, List,
 use Rattle.line_script.specs.declared.line.ScriptLine.{ScriptLine}
 use Rattle.line_script.specs.declared.line.ScriptLine.TheVariants as lines
 use Rattle.line_report.specs.declared.happening.Happening.{Happening}
+use Rattle.line_step.specs.Requests.{request_of}
 use Rattle.line_step.specs.Lines.{LineSteps}
 use Rattle.line_step.specs.Parts.{IsPlay, parts_of}
 use Rattle.line_step.specs.Runs.{Point, all_told, state_behind}
@@ -33,5 +34,5 @@ is_alone _ = true
 pub record GoesOn (number : ℕ) (line : ScriptLine) (before after : LineState)
     (told now : List Happening) : Type 0 where
   pub more : List Happening
-  pub steps : LineSteps number line before after more
+  pub steps : LineSteps number (request_of line) before after more
   pub now_is : now ≡ told ++ more

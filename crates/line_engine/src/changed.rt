@@ -58,6 +58,8 @@ fn add_ids(act: &Act, ids: &mut Vec<BoardId>) -> Result<(), Memory>
             add_id(*old, ids)?;
             add_id(*new, ids)
         }
+        Act::Gives { id, .. } => add_id(*id, ids),
+        Act::Gets { id } => add_id(*id, ids),
         _ => Ok(()),
     }
 }

@@ -6,6 +6,7 @@ ghost use Rattle.line_step.specs.World.{end_of, link_at, link_of};
 ghost use Rattle.line_script.specs.Ranges.{IsBetween, IsWithin};
 ghost use Rattle.line_script.specs.declared.line.ScriptLine.TheVariants as lines;
 ghost use Rattle.line_step.specs.Lines.{LineSteps};
+ghost use Rattle.line_step.specs.Requests.{request_of};
 ghost use Rattle.line_step.specs.Parts.{ScriptLineSteps, count_behind, cut_where, where_may};
 ghost use Rattle.line_step.specs.Reasons.{may_notice};
 ghost use Rattle.line_step.specs.State.{marks_in, no_line};
@@ -286,7 +287,7 @@ impl Line {
         ensures memory { OnErr result (self.new.spent ≡ true) }
         ensures again { IfOk result (λ told. self.new.spent ≡ false) }
         ensures counted { IfOk result (λ told. self.new.lines ≡ count_behind ends self.old.lines) }
-        ensures step { IfOk result (LineSteps number line.now self.old self.new) }
+        ensures step { IfOk result (LineSteps number (request_of line.now) self.old self.new) }
         ensures alone { ends ≡ true → is_alone line.now ≡ true
             → IfOk result (ScriptLineSteps line.now self.old self.new) }
     {

@@ -7,6 +7,7 @@ ghost use Rattle.line_report.specs.declared.happening.Happening.TheVariants as h
 ghost use Rattle.line_script.specs.Ranges.{IsWithin};
 ghost use Rattle.line_step.specs.Lines.{Becomes, Connects, Flows, LineDoes, Moves, Unless, cut_in, first_of, lied, spoil_told, spoiled, unseen, unvouched_told};
 ghost use Rattle.line_step.specs.Reasons.{may_add, may_answer, may_connect, may_cut, may_do, may_flow, may_give, may_lie, may_notice, may_remove, may_replace, may_sense, may_spoil, may_stop, may_unseen};
+ghost use Rattle.line_step.specs.Requests.{request_of};
 ghost use Rattle.line_step.specs.Shown.{shown};
 ghost use Rattle.line_step.specs.State.{one_more, profile_of};
 ghost use Rattle.line_step.specs.Steps.{MachineSteps};
@@ -32,7 +33,7 @@ impl State {
         requires few { number ≤ 1000000 }
         requires within { IsWithin line.now }
         requires together { IsLineTogether self.old }
-        ensures { IfOk result (LineDoes number line.now self.old self.new) }
+        ensures { IfOk result (LineDoes number (request_of line.now) self.old self.new) }
     {
         match line {
             ScriptLine::Blank => Ok(Happened::new(self.alloc)),
@@ -69,7 +70,7 @@ impl State {
         requires few { number ≤ 1000000 }
         requires given { (is_given line.now || is_move line.now) ≡ true }
         requires together { IsLineTogether self.old }
-        ensures { IfOk result (LineDoes number line.now self.old self.new) }
+        ensures { IfOk result (LineDoes number (request_of line.now) self.old self.new) }
     {
         match line {
             ScriptLine::Insert { machine, barcode } => self.insert(number, *machine, barcode),
@@ -101,7 +102,7 @@ impl State {
     /// Does a line that moves a board on the floor.
     fn do_move(&mut self, line: &ScriptLine) -> Result<Happened, Memory>
         requires { is_move line.now ≡ true }
-        ensures { (number : ℕ) → IfOk result (LineDoes number line.now self.old self.new) }
+        ensures { (number : ℕ) → IfOk result (LineDoes number (request_of line.now) self.old self.new) }
     {
         match line {
             ScriptLine::Begin { gap } => self.move_board(*gap, Move::Begin),
@@ -140,7 +141,7 @@ impl State {
         requires together { IsLineTogether self.old }
         ensures { IfOk result
             (λ told. Unless (may_add self.old) self.old self.new told
-            (Becomes (one_more is_bridge capacity used self.old)
+            (Becomes (one_more 1 is_bridge capacity used self.old)
             (made_told is_bridge (length self.old.machines + 1) capacity ∷ []) self.new told)) }
     {
         if let Err(reason) = self.may_add() {
@@ -541,7 +542,7 @@ fn add_node(
     requires used { used < 2 ^ 48 }
     ensures { OnOk result
         (machines.new.items ≡ machines.old.items
-        ++ new_node (profile_of is_bridge number capacity used) ∷ []) }
+        ++ new_node (profile_of 1 is_bridge number capacity used) ∷ []) }
 {
     let node = new_node(*machines.allocator(), is_bridge, number, capacity, used)?;
     machines.push(node)?;
@@ -560,7 +561,7 @@ fn new_node(
     requires least { 1 ≤ capacity }
     requires most { capacity ≤ 1024 }
     requires used { used < 2 ^ 48 }
-    ensures { IfOk result (λ node. node ≡ new_node (profile_of is_bridge number capacity used)) }
+    ensures { IfOk result (λ node. node ≡ new_node (profile_of 1 is_bridge number capacity used)) }
 {
     let mut name = Vec::new(alloc);
     match write!(name, "M{number}") {
