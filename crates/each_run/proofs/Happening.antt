@@ -13,7 +13,7 @@ use Rattle.line_report.specs.declared.happening.Reason.TheVariants as reasons
 use Rattle.line_script.specs.declared.line.LineWhy.{LineWhy}
 use Rattle.line_script.specs.declared.line.LineWhy.TheVariants as whys
 use Rattle.machine_log.specs.Texts.{lines_of, no_line, refused_line}
-use Rattle.entry_step.specs.Given.{entry_of}
+use Rattle.entry_step.specs.Given.{IsOfOneLane, entry_of}
 use Rattle.node_core.specs.May.{may_of}
 use Rattle.node_core.specs.Sides.{is_open}
 use Rattle.node_core.specs.declared.input.Input.{Input}
@@ -64,10 +64,10 @@ alike s t node channel config held k = record { node = rw node k.node; channel =
 
 -- ---- steps
 
-pub step_happens : (asked : Bool) (rules : Rules) (moment : ℤ) (sensed : List Sensed) (input : Input) (s : RunState) → IsKept s → Happens (λ t log. TakesStep asked rules moment sensed input s t log)
-step_happens asked rules moment sensed input s k =
+pub step_happens : (asked : Bool) (rules : Rules) (moment : ℤ) (sensed : List Sensed) (input : Input) (s : RunState) → IsOfOneLane input → IsKept s → Happens (λ t log. TakesStep asked rules moment sensed input s t log)
+step_happens asked rules moment sensed input s alone k =
     let own = has_steps s.node sensed input moment in
-    let small = steps_small s.node own.next sensed input moment own.acts own.steps k.node in
+    let small = steps_small s.node own.next sensed input moment own.acts alone own.steps k.node in
     record {
       after = stepped asked rules (entry_of sensed input moment) own.next own.acts s;
       log = lines_of rules.panel.drives s.turn rules.number own.acts;
@@ -75,30 +75,47 @@ step_happens asked rules moment sensed input s k =
       kept = record { node = small.node; channel = k.channel; config = k.config; held = k.held };
     }
 
-pub takes_happens : (may : Result (Unit {0}) No) (rules : Rules) (moment : ℤ) (input : Input) (from s : RunState) → IsKept from → IsKept s → Happens (λ t log. Takes may rules moment input from s t log)
-takes_happens (Ok done) rules moment input from s k l = step_happens false rules moment [] input from k
-takes_happens (Err why) rules moment input from s k l = becomes s [] l
+pub takes_happens : (may : Result (Unit {0}) No) (rules : Rules) (moment : ℤ) (input : Input) (from s : RunState) → IsOfOneLane input → IsKept from → IsKept s → Happens (λ t log. Takes may rules moment input from s t log)
+takes_happens (Ok done) rules moment input from s alone k l = step_happens false rules moment [] input from alone k
+takes_happens (Err why) rules moment input from s alone k l = becomes s [] l
 
-second_happens : (may : Result (Unit {0}) No) (rules : Rules) (moment : ℤ) (input : Input) (s : RunState) → IsKept s → Happens (λ t log. MeetsSecond may rules moment input s t log)
-second_happens (Ok done) rules moment input s k =
+second_happens : (may : Result (Unit {0}) No) (rules : Rules) (moment : ℤ) (input : Input) (s : RunState) → IsOfOneLane input → IsKept s → Happens (λ t log. MeetsSecond may rules moment input s t log)
+second_happens (Ok done) rules moment input s alone k =
     let own = has_steps s.node [] input moment in
-    let small = steps_small s.node own.next [] input moment own.acts own.steps k.node in
+    let small = steps_small s.node own.next [] input moment own.acts alone own.steps k.node in
     record {
       after = refusing rules (entry_of [] input moment) own.next own.acts s;
       log = lines_of rules.panel.drives s.turn rules.number own.acts;
       does = record { node = own.next; told = own.acts; steps = own.steps; proper = small.proper; after = refl; lines = refl };
       kept = record { node = small.node; channel = k.channel; config = k.config; held = k.held };
     }
-second_happens (Err why) rules moment input s k = becomes s [] k
+second_happens (Err why) rules moment input s alone k = becomes s [] k
 
 -- ---- lines of the panel
 
 tells_happens : (text : List ℕ) (s : RunState) → IsKept s → Happens (λ t log. Tells text s t log)
 tells_happens text s k = becomes (echoed text s) text (alike s (echoed text s) refl refl refl refl k)
 
-input_happens : (may : Result (Unit {0}) No) (rules : Rules) (moment : ℤ) (sensed : List Sensed) (input : Input) (s : RunState) → IsKept s → Happens (λ t log. DoesInput may rules moment sensed input s t log)
-input_happens (Ok done) rules moment sensed input s k = step_happens true rules moment sensed input s k
-input_happens (Err why) rules moment sensed input s k = tells_happens (no_line s.turn (reasons.Node why)) s k
+line_alone : (line : PanelLine) → IsOfOneLane (input_of line)
+line_alone (lines.Insert barcode) = tt
+line_alone (lines.Remove id) = tt
+line_alone (lines.Replace id) = tt
+line_alone (lines.Mark id quality) = tt
+line_alone (lines.Sub id place barcode) = tt
+line_alone (lines.Hold side) = tt
+line_alone (lines.Go side) = tt
+line_alone lines.Shutdown = tt
+line_alone lines.Tick = tt
+line_alone (lines.Signal line on) = tt
+line_alone lines.Forecast = tt
+line_alone (lines.Query barcode) = tt
+line_alone (lines.Ask question) = tt
+line_alone (lines.Fault side) = tt
+line_alone _ = tt
+
+input_happens : (may : Result (Unit {0}) No) (rules : Rules) (moment : ℤ) (sensed : List Sensed) (input : Input) (s : RunState) → IsOfOneLane input → IsKept s → Happens (λ t log. DoesInput may rules moment sensed input s t log)
+input_happens (Ok done) rules moment sensed input s alone k = step_happens true rules moment sensed input s alone k
+input_happens (Err why) rules moment sensed input s alone k = tells_happens (no_line s.turn (reasons.Node why)) s k
 
 asks_happens : (may : Result (Unit {0}) No) (s : RunState) → IsKept s → Happens (λ t log. AsksIf may s t log)
 asks_happens (Ok done) s k = becomes (record s { asks = true }) [] (alike s (record s { asks = true }) refl refl refl refl k)
@@ -114,7 +131,7 @@ asked_happens (Ok lines.Blank) rules moment s k = becomes s [] k
 asked_happens (Ok lines.End) rules moment s k = becomes (record s { ended = Some statuses.Done }) [] (alike s (record s { ended = Some statuses.Done }) refl refl refl refl k)
 asked_happens (Ok lines.Show) rules moment s k = tells_happens (shown rules s) s k
 asked_happens (Ok lines.Connect) rules moment s k = connect_happens s.settings.upstream s k
-asked_happens (Ok line) rules moment s k = input_happens (may_of s.node (input_of line)) rules moment (sensed_of line) (input_of line) s k
+asked_happens (Ok line) rules moment s k = input_happens (may_of s.node (input_of line)) rules moment (sensed_of line) (input_of line) s (line_alone line) k
 
 keeps_happens : (long : Bool) (front : List ℕ) (s : RunState) → IsKept s → Happens (λ t log. KeepsFront long front s t log)
 keeps_happens true front s k =
@@ -243,7 +260,7 @@ held_kept side bytes s k = record { node = k.node; channel = k.channel; config =
 
 upstream_happens : (rules : Rules) (moment : ℤ) (got : GotBytes) (s : RunState) → IsKept s → Happens (λ t log. AfterUpstream rules moment got s t log)
 upstream_happens rules moment founds.Arrived s k =
-    let stands : RunState = with_wire ways.Upstream wires.Stands s in takes_happens (may_of s.node inputs.Connect) rules moment inputs.Connect stands s (alike s stands refl refl refl refl k) k
+    let stands : RunState = with_wire ways.Upstream wires.Stands s in takes_happens (may_of s.node inputs.Connect) rules moment inputs.Connect stands s tt (alike s stands refl refl refl refl k) k
 upstream_happens rules moment founds.Second s k = becomes s [] k
 upstream_happens rules moment (founds.Bytes bytes) s k = becomes (with_held (holds Entry (Some bytes)) s) [] (held_kept Entry (Some bytes) s k)
 upstream_happens rules moment founds.NotYet s k = becomes s [] k
@@ -252,8 +269,8 @@ upstream_happens rules moment founds.Failed s k = becomes (with_held (holds Entr
 
 downstream_happens : (rules : Rules) (moment : ℤ) (got : GotBytes) (s : RunState) → IsKept s → Happens (λ t log. AfterDownstream rules moment got s t log)
 downstream_happens rules moment founds.Arrived s k =
-    let stands : RunState = with_wire ways.Downstream wires.Stands s in takes_happens (may_of s.node inputs.Accepted) rules moment inputs.Accepted stands s (alike s stands refl refl refl refl k) k
-downstream_happens rules moment founds.Second s k = second_happens (may_of s.node inputs.Second) rules moment inputs.Second s k
+    let stands : RunState = with_wire ways.Downstream wires.Stands s in takes_happens (may_of s.node inputs.Accepted) rules moment inputs.Accepted stands s tt (alike s stands refl refl refl refl k) k
+downstream_happens rules moment founds.Second s k = second_happens (may_of s.node inputs.Second) rules moment inputs.Second s tt k
 downstream_happens rules moment (founds.Bytes bytes) s k = becomes (with_held (holds Exit (Some bytes)) s) [] (held_kept Exit (Some bytes) s k)
 downstream_happens rules moment founds.NotYet s k = becomes s [] k
 downstream_happens rules moment founds.Closed s k = becomes (with_held (holds Exit None) s) [] (held_kept Exit None s k)
@@ -277,7 +294,7 @@ broken_kept Exit false s k = k
 found_happens : (bytes : Option (List ℕ)) (side : Side) (rules : Rules) (moment : ℤ) (s : RunState) → IsKept s → Happens (λ t log. TakesFound bytes side rules moment s t log)
 found_happens (Some bytes) side rules moment s k =
     let piece : Bor (List ℕ) = record { ref_ptr = (0, 0); now = bytes } in
-    let took = takes_happens (may_of s.node (inputs.Bytes side piece)) rules moment (inputs.Bytes side piece) s s k k in
+    let took = takes_happens (may_of s.node (inputs.Bytes side piece)) rules moment (inputs.Bytes side piece) s s tt k k in
     record { after = took.after; log = took.log; does = record { piece = piece; same = refl; takes = took.does }; kept = took.kept }
 found_happens None side rules moment s k = becomes (broken (way_of side) (is_open side s.node.lane.body) s) [] (broken_kept side (is_open side s.node.lane.body) s k)
 
@@ -292,18 +309,18 @@ held_happens rules moment s k =
 -- ---- a way is closed, a side is reset
 
 pub unsupervised_happens : (rules : Rules) (moment : ℤ) (s : RunState) → IsKept s → Happens (λ t log. Unsupervised rules moment s t log)
-unsupervised_happens rules moment s k = takes_happens (may_of s.node (inputs.Supervise false)) rules moment (inputs.Supervise false) s s k k
+unsupervised_happens rules moment s k = takes_happens (may_of s.node (inputs.Supervise false)) rules moment (inputs.Supervise false) s s tt k k
 
 pub close_happens : (rules : Rules) (moment : ℤ) (way : Way) (s : RunState) → IsKept s → Happens (λ t log. AfterClose rules moment way s t log)
 close_happens rules moment ways.Panel s k = becomes (panel_gone s) [] (alike s (panel_gone s) refl refl refl refl k)
 close_happens rules moment ways.Upstream s k =
     let closed : RunState = record s { upstream = at_rest } in
     let l = alike s closed refl refl refl refl k in
-    takes_happens (may_of s.node (inputs.Notice Entry)) rules moment (inputs.Notice Entry) closed closed l l
+    takes_happens (may_of s.node (inputs.Notice Entry)) rules moment (inputs.Notice Entry) closed closed tt l l
 close_happens rules moment ways.Downstream s k =
     let closed : RunState = record s { downstream = at_rest } in
     let l = alike s closed refl refl refl refl k in
-    takes_happens (may_of s.node (inputs.Notice Exit)) rules moment (inputs.Notice Exit) closed closed l l
+    takes_happens (may_of s.node (inputs.Notice Exit)) rules moment (inputs.Notice Exit) closed closed tt l l
 close_happens rules moment ways.Supervisory s k =
     unsupervised_happens rules moment (record s { supervisory = at_rest; channel = no_session })
     (record { node = k.node; channel = record { waiting = omega arith; piece = omega arith }; config = k.config; held = k.held })
@@ -321,5 +338,5 @@ leaving_kept moment Exit s k = record { node = k.node; channel = k.channel; conf
 pub reset_happens : (rules : Rules) (moment : ℤ) (side : Side) (s : RunState) → IsKept s → Happens (λ t log. ResetsSide rules moment side s t log)
 reset_happens rules moment side s k =
     let begun = reset_kept side s k in
-    takes_happens (may_of s.node (inputs.Notice side)) rules moment (inputs.Notice side) (leaving moment side (reset_begun side s)) (reset_begun side s)
+    takes_happens (may_of s.node (inputs.Notice side)) rules moment (inputs.Notice side) (leaving moment side (reset_begun side s)) (reset_begun side s) tt
     (leaving_kept moment side (reset_begun side s) begun) begun

@@ -98,7 +98,7 @@ said_kept : (moment : ℤ) (body : Vertical) (s : RunState) → IsKept s → IsK
 said_kept moment body s k = record { node = k.node; channel = k.channel; config = k.config; held = k.held }
 
 answers_happens : (may : Result (Unit {0}) No) (rules : Rules) (moment : ℤ) (query : ℕ) (order : List ℕ) (s : RunState) → IsKept s → Happens (λ t log. AnswersIf may rules moment query order s t log)
-answers_happens (Ok done) rules moment query order s k = step_happens false rules moment [] (inputs.Answer query order) s k
+answers_happens (Ok done) rules moment query order s k = step_happens false rules moment [] (inputs.Answer query order) s tt k
 answers_happens (Err why) rules moment query order s k =
     let text = notification 0 severity.Warning (untaken why) in becomes (said moment text s) [] (said_kept moment text s k)
 
@@ -106,7 +106,7 @@ action_happens : (action : VerticalAction) (rules : Rules) (moment : ℤ) (s : R
 action_happens actions.Describe rules moment s k =
     let told : RunState = said moment (system_of rules.machine_id) s in
     let l = said_kept moment (system_of rules.machine_id) s k in
-    takes_happens (may_of s.node (inputs.Supervise true)) rules moment (inputs.Supervise true) told told l l
+    takes_happens (may_of s.node (inputs.Supervise true)) rules moment (inputs.Supervise true) told told tt l l
 action_happens (actions.Pong id) rules moment s k =
     let body = bodies.CheckAlive (Some pings.Answer) id in becomes (said moment body s) [] (said_kept moment body s k)
 action_happens (actions.Answer query order) rules moment s k = answers_happens (may_of s.node (inputs.Answer query order)) rules moment query order s k

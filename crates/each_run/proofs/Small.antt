@@ -33,12 +33,13 @@ use Rattle.handover_in.specs.Row.{InRow}
 use Rattle.handover_in.specs.State as intake
 use Rattle.handover_in.specs.State.{InState}
 use Rattle.handover_in.specs.Table.{IsIntakeRow, available_heard, available_idle, available_stopped, starts_transport}
+use Rattle.entry_step.specs.Given.{IsOfOneLane}
 use Rattle.machine_log.specs.Account.{AreProper, IsProperAct, id_of_deed}
 use Rattle.node_core.specs.Announces.{announces}
 use Rattle.node_core.specs.Boards.{is_kept, with_changed, without}
 use Rattle.node_core.specs.Desk.{Desk}
 use Rattle.node_core.specs.Done.{Done}
-use Rattle.node_core.specs.Event.{Event, Insert, Replace, Words, event_did, event_of, maker_after, with_new}
+use Rattle.node_core.specs.Event.{Event, Gets, Insert, Replace, Words, event_did, event_of, maker_after, with_new}
 use Rattle.node_core.specs.Halves.{behind_opening, given_back, opening_board, settled}
 use Rattle.node_core.specs.Node.{NodeState, desk_of, new_node}
 use Rattle.node_core.specs.Reads.{all_read}
@@ -78,6 +79,8 @@ use Rattle.step_rules.specs.Causes.{
   changes_front,
   changes_quality,
   hand_changes,
+  hand_gets,
+  hand_gives,
   hand_inserts,
   hand_removes,
   hand_replaces,
@@ -291,6 +294,7 @@ abbrev IsSmallEvent : Event → Type 0
 IsSmallEvent (Words side spoken) = AreSmallWords spoken
 IsSmallEvent (Insert id barcode) = IsSmall id
 IsSmallEvent (Replace old new) = IsSmall new
+IsSmallEvent (Gets board) = IsSmall board.id
 IsSmallEvent event = Unit {0}
 
 abbrev IsSmallCause : Cause → Type 0
@@ -335,6 +339,8 @@ record StaysSmall (d : Done) : Type 0 where
 by_hand : {desk : Desk} {event : Event} {body : Body} {kept : List Record} {act : Act} → ByHand desk event body kept act → IsSmallEvent event → IsSmallBody body → AreSmall kept × IsProperAct act
 by_hand {desk = desk} (hand_inserts {id = id} {barcode = barcode}) small b = (behind_small (plain_record id desk.name barcode) b.kept small, small)
 by_hand (hand_removes {id = id} {body = body} is) small b = (without_small id body.kept b.kept, kept_small id body.kept is b.kept)
+by_hand (hand_gives {id = id} {body = body} is) small b = (without_small id body.kept b.kept, kept_small id body.kept is b.kept)
+by_hand (hand_gets {board = board} {body = body}) small b = (behind_small board b.kept small, small)
 by_hand {desk = desk} (hand_replaces {old = old} {new = new} {body = body} is) small b =
     (changed_small old (λ board. plain_record new desk.name None) body.kept (λ board one. small) b.kept, (kept_small old body.kept is b.kept, small))
 by_hand (hand_changes (changes_quality {id = id} {body = body} is)) small b = (changed_small id _ body.kept (λ board one. one) b.kept, tt)
@@ -471,12 +477,14 @@ first_small first_none = no_words
 first_small (first_more {frame = frame} {word = word} means others) = more_words (means_small frame word means) (first_small others)
 first_small first_too_long = more_words tt no_words
 
-event_small : (maker : Maker) (input : Input) (old new : Lane) (spoken : List Word) → IsSmallMaker maker → Brings input old new spoken → IsSmallEvent (event_of maker input spoken)
-event_small maker (inputs.Bytes Entry piece) old new spoken m brings = first_small brings.0.first
-event_small maker (inputs.Bytes Exit piece) old new spoken m brings = first_small brings.0.first
-event_small maker (inputs.Insert barcode) old new spoken m brings = insert_small (next_id maker) barcode (new_small maker m)
-event_small maker (inputs.Replace id) old new spoken m brings = replace_small (next_id maker) id (new_small maker m)
-event_small maker _ old new spoken m brings = tt
+event_small : (maker : Maker) (input : Input) (old new : Lane) (spoken : List Word) → IsOfOneLane input → IsSmallMaker maker → Brings input old new spoken → IsSmallEvent (event_of maker input spoken)
+event_small maker (inputs.Bytes Entry piece) old new spoken alone m brings = first_small brings.0.first
+event_small maker (inputs.Bytes Exit piece) old new spoken alone m brings = first_small brings.0.first
+event_small maker (inputs.Insert barcode) old new spoken alone m brings = insert_small (next_id maker) barcode (new_small maker m)
+event_small maker (inputs.Replace id) old new spoken alone m brings = replace_small (next_id maker) id (new_small maker m)
+event_small maker (inputs.Gives id to) old new spoken alone m brings = absurd alone
+event_small maker (inputs.Gets board) old new spoken alone m brings = absurd alone
+event_small maker _ old new spoken alone m brings = tt
 
 after_at : (test : Bool) (maker : Maker) → nat_le (2 ^ 48 - 1) maker.used ≡ test → IsSmallMaker maker → IsSmallMaker (after_next maker)
 after_at true maker is m = rw is m
@@ -498,12 +506,12 @@ pub record StepsProperly (t : NodeState) (told : List Act) : Type 0 where
   pub node : IsSmallNode t
   pub proper : AreProper told
 
-pub steps_small : (s t : NodeState) (unread : List Sensed) (input : Input) (moment : ℤ) (told : List Act) → Steps s unread input moment t told → IsSmallNode s → StepsProperly t told
-steps_small s t unread input moment told steps small =
+pub steps_small : (s t : NodeState) (unread : List Sensed) (input : Input) (moment : ℤ) (told : List Act) → IsOfOneLane input → Steps s unread input moment t told → IsSmallNode s → StepsProperly t told
+steps_small s t unread input moment told alone steps small =
     let desk = desk_of s moment in
     let event = event_of s.maker input steps.lane.words in
     let body = s.lane.body in
-    let plain = plain_small desk unread event body (event_small s.maker input s.lane t.lane steps.lane.words small.maker steps.lane.brings) small.body in
+    let plain = plain_small desk unread event body (event_small s.maker input s.lane t.lane steps.lane.words alone small.maker steps.lane.brings) small.body in
     let made : All steps.made = subst All (sym steps.lane.told) (with_tells_proper desk (watch_of desk body) (plain_step desk unread event body).acts plain.acts) in
     let all : All told = subst All (sym steps.told) (join_all IsProperAct steps.made (signalled s.bridge t.lane.body) made (signals_proper s.bridge t.lane.body)) in
     record {

@@ -7,7 +7,14 @@ use Rattle.book_entry.specs.declared.entry.OwnInput.TheVariants as own
 use Rattle.node_core.specs.declared.input.Input.{Input}
 use Rattle.node_core.specs.declared.input.Input.TheVariants as inputs
 
--- an input as it is kept, with the bytes that were lent to the machine
+-- an input that a machine of one lane may be given: no board comes from another lane or goes there
+abbrev pub IsOfOneLane : Input → Type 0
+IsOfOneLane (inputs.Gives id to) = ⊥
+IsOfOneLane (inputs.Gets board) = ⊥
+IsOfOneLane _ = Unit {0}
+
+-- an input of one lane as it is kept, with the bytes that were lent to the machine. The others have
+-- no entry
 abbrev pub own_of : Input → OwnInput
 own_of inputs.Nothing = own.Nothing
 own_of inputs.Connect = own.Connect
@@ -30,6 +37,8 @@ own_of (inputs.Supervise on) = own.Supervise on
 own_of (inputs.Ask question) = own.Ask question
 own_of (inputs.Answer query order) = own.Answer query order
 own_of (inputs.Sub id place barcode) = own.Sub id place barcode
+own_of (inputs.Gives id to) = own.Nothing
+own_of (inputs.Gets board) = own.Nothing
 
 -- the entry of a step
 abbrev pub entry_of : List Sensed → Input → ℤ → Entry

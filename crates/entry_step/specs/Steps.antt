@@ -10,11 +10,12 @@ use Rattle.node_core.specs.Node.{NodeState}
 use Rattle.node_core.specs.Step.{Steps}
 use Rattle.node_core.specs.declared.act.Act.{Act}
 use Rattle.node_core.specs.declared.input.Input.{Input}
-use Rattle.entry_step.specs.Given.{own_of}
+use Rattle.entry_step.specs.Given.{IsOfOneLane, own_of}
 use Rattle.entry_step.specs.declared.stepping.StepError.{StepError}
 use Rattle.entry_step.specs.declared.stepping.StepError.TheVariants as errors
 
--- the machine may be given this input, and this is what its step makes of it, and does
+-- the machine may be given this input, which is of one lane then, and this is what its step makes
+-- of it, and does
 pub record DoesInput (s : NodeState) (sensed : List Sensed) (input : OwnInput) (moment : ℤ)
     (t : NodeState) (acts : List Act) : Type 0 where
   pub lent : Input
@@ -29,6 +30,7 @@ DoesEntry s entry t acts = DoesInput s entry.sensed entry.input entry.moment t a
 pub record IsRefused (s : NodeState) (input : OwnInput) : Type 0 where
   pub lent : Input
   pub kept : own_of lent ≡ input
+  pub alone : IsOfOneLane lent
   pub refused : may_of s lent ≡ may_do → ⊥
 
 -- one entry after another, with all that is done in them

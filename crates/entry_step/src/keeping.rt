@@ -1,6 +1,6 @@
 ghost use Rattle.std.specs.Prelude.{◌≡◌, ◌≤◌, IfOk, IfSome, length};
 ghost use Rattle.book_entry.specs.Spelling.{IsWritable};
-ghost use Rattle.entry_step.specs.Given.{entry_of, own_of};
+ghost use Rattle.entry_step.specs.Given.{IsOfOneLane, entry_of, own_of};
 ghost use Rattle.entry_step.specs.Short.{AreFew, IsFew, IsFewQuestion, IsShort};
 
 use board_record::Sensed;
@@ -10,7 +10,7 @@ use line_base::{Memory, Moment, Text};
 use node_core::Input;
 use std::alloc::Global;
 
-/// The entry of a step. It can be written.
+/// The entry of a step of a machine of one lane. It can be written.
 ///
 /// `Memory` where it was wanting for the input's texts and bytes.
 pub fn own_entry(
@@ -21,6 +21,7 @@ pub fn own_entry(
 ) -> Result<Entry, Memory>
     requires events { length sensed.now ≤ 65535 }
     requires short { IsShort (own_of input.now) }
+    requires alone { IsOfOneLane input.now }
     ensures entry { IfOk result (λ entry. entry ≡ entry_of sensed.now input.now moment) }
     ensures writable { IfOk result IsWritable }
 {
@@ -95,7 +96,7 @@ fn events_of(alloc: Global, sensed: &[Sensed]) -> Result<Events, Memory>
     Ok(events)
 }
 
-/// An input, kept.
+/// An input of one lane, kept.
 fn own_of(alloc: Global, input: &Input<'_>) -> Result<OwnInput, Memory>
     ensures { IfOk result (λ kept. kept ≡ own_of input.now) }
 {
@@ -128,6 +129,8 @@ fn own_of(alloc: Global, input: &Input<'_>) -> Result<OwnInput, Memory>
             pos: *pos,
             barcode: copy_maybe(alloc, barcode)?,
         }),
+        Input::Gives { .. } => Ok(OwnInput::Nothing),
+        Input::Gets(_) => Ok(OwnInput::Nothing),
     }
 }
 

@@ -1,6 +1,6 @@
 ghost use Rattle.std.specs.Prelude.{◌≡◌, false, IfOk};
 ghost use Rattle.node_core.specs.May.{may_do, may_of};
-ghost use Rattle.entry_step.specs.Given.{own_of};
+ghost use Rattle.entry_step.specs.Given.{IsOfOneLane, own_of};
 ghost use Rattle.entry_step.specs.Steps.{StepsEntry, StepsOwn};
 ghost use Rattle.book_entry.specs.declared.entry.OwnInput.TheVariants as own;
 
@@ -91,6 +91,7 @@ fn step_lent(
     input: Input<'_>,
     moment: Moment,
 ) -> Result<Outputs, StepError>
+    requires alone { IsOfOneLane input }
     ensures steps { StepsOwn node.old sensed.now (own_of input.entry) moment node.new result }
     ensures awake { IfOk result (λ acts. node.new.spent ≡ false) }
 {

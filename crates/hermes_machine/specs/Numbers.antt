@@ -40,6 +40,9 @@ number_of_no no.QueriesFull = pos 17
 number_of_no no.UnknownQuery = pos 18
 number_of_no (no.Answered query) = pos 19
 number_of_no no.SubsFull = pos 20
+-- of a machine of several lanes: no call gives what these are against
+number_of_no no.NoLane = pos 21
+number_of_no no.WasOffered = pos 22
 
 -- a side is the number of its way
 abbrev pub side_of : ℕ → Option Side

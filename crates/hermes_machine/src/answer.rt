@@ -53,6 +53,8 @@ pub fn number_of_no(why: No) -> i32
         No::UnknownQuery => 18,
         No::Answered(_) => 19,
         No::SubsFull => 20,
+        No::NoLane => 21,
+        No::WasOffered => 22,
     }
 }
 

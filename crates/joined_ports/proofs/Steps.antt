@@ -167,6 +167,14 @@ kind_of Entry (inputs.Answer query order) =
     kind_plain (λ w. refl) (λ is. cc) (λ other is. cc) (λ is same. cc)
 kind_of Exit (inputs.Answer query order) =
     kind_plain (λ w. refl) (λ is. cc) (λ other is. cc) (λ is same. cc)
+kind_of Entry (inputs.Gives id to) =
+    kind_plain (λ w. refl) (λ is. cc) (λ other is. cc) (λ is same. cc)
+kind_of Exit (inputs.Gives id to) =
+    kind_plain (λ w. refl) (λ is. cc) (λ other is. cc) (λ is same. cc)
+kind_of Entry (inputs.Gets board) =
+    kind_plain (λ w. refl) (λ is. cc) (λ other is. cc) (λ is same. cc)
+kind_of Exit (inputs.Gets board) =
+    kind_plain (λ w. refl) (λ is. cc) (λ other is. cc) (λ is same. cc)
 
 -- ---- one connection as the acts begin
 

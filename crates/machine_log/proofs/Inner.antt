@@ -1,5 +1,5 @@
 -- No text of a log has an end of a line in it.
-use Rattle.std.proofs.Common.{◌≡◌, ap, refl, ℕ, ◌-◌, ◌==◌, Bool, true, false, not, cond, List, [], ◌∷◌, ◌++◌, Option, None, Some, codes, decimal}
+use Rattle.std.proofs.Common.{◌≡◌, ap, refl, ℕ, ◌-◌, ◌==◌, Bool, true, false, not, cond, List, [], ◌∷◌, ◌++◌, Option, None, Some, codes, decimal, if◌then◌else◌}
 use Rattle.std.proofs.lemmas.Bool.{and_from}
 use Rattle.std.specs.List.{list_all}
 use Rattle.line_base.specs.declared.states.Quality.{Quality}
@@ -31,7 +31,7 @@ use Rattle.line_world.specs.declared.moves.MoveNo.TheVariants as moves
 use Rattle.line_script.specs.Words.{why_text}
 use Rattle.line_script.specs.declared.line.LineWhy.{LineWhy}
 use Rattle.line_script.specs.declared.line.LineWhy.TheVariants as whys
-use Rattle.line_report.specs.Texts.{act_text, at_side, byte_in_line, event_text, id_or_none, in_line, line_word, mark_of, no_text, numbered, of_board, passed_text, passing_text, ping_text, quality_text, reason_text, setting_text, side_text, signal_word, switch_word, switched, told_text, transfer_text, what_text, will_word}
+use Rattle.line_report.specs.Texts.{act_text, at_side, byte_in_line, event_text, id_or_none, in_line, line_word, mark_of, no_text, numbered, of_board, passed_text, passing_text, ping_text, place_text, placed, quality_text, reason_text, setting_text, side_text, signal_word, switch_word, switched, told_text, transfer_text, what_text, will_word}
 use Rattle.line_report.specs.declared.happening.Reason.{Reason}
 use Rattle.line_report.specs.declared.happening.Reason.TheVariants as reasons
 use Rattle.node_core.specs.declared.act.Act.{Act}
@@ -96,6 +96,14 @@ inner_numbered word number w = spaced word (decimal number) w (inner_decimal num
 
 pub inner_board : (word : List ℕ) (number id : ℕ) → inner word → inner (of_board word number id)
 inner_board word number id w = spaced (numbered word number) (id_text id) (inner_numbered word number w) (inner_id id)
+
+inner_place : (lane number : ℕ) → inner (place_text lane number)
+inner_place lane number = by (lane == 1) where
+  by : (first : Bool) → inner (if first then decimal number else decimal number ++ codes "." ++ decimal lane)
+  by true = inner_decimal number
+  by false =
+      join is_inner (decimal number ++ codes ".") (decimal lane)
+      (join is_inner (decimal number) (codes ".") (inner_decimal number) refl) (inner_decimal lane)
 
 inner_switched : (word : List ℕ) (machine : ℕ) (signal : List ℕ) (on : Bool) → inner word → inner signal
     → inner (switched word machine signal on)
@@ -227,6 +235,12 @@ inner_act machine (acts.Answered query order) proper =
     spaced (numbered (numbered (codes "answered") machine) query) (in_line order)
     (inner_numbered (numbered (codes "answered") machine) query (inner_numbered (codes "answered") machine refl)) (inner_in_line order)
 inner_act machine (acts.Sets setting) proper = inner_setting machine setting
+inner_act machine (acts.Gives id to) proper =
+    spaced (placed (codes "shift") 1 machine ++ codes " " ++ place_text to machine) (id_text id)
+    (spaced (placed (codes "shift") 1 machine) (place_text to machine)
+    (inner_numbered (codes "shift") machine refl) (inner_place to machine))
+    (inner_id id)
+inner_act machine (acts.Gets id) proper = refl
 
 pub inner_deed : (deed : Deed) → inner (deed_text deed)
 inner_deed (deeds.Opens id) = inner_gap (codes "opens") Exit id refl
@@ -272,6 +286,8 @@ inner_no nos.NotSupervised = refl
 inner_no nos.QueriesFull = refl
 inner_no nos.UnknownQuery = refl
 inner_no (nos.Answered query) = refl
+inner_no nos.NoLane = refl
+inner_no nos.WasOffered = refl
 
 inner_move : (why : MoveNo) → inner (move_no_text why)
 inner_move moves.NoGap = refl
@@ -289,6 +305,8 @@ inner_reason (reasons.Node why) = inner_no why
 inner_reason (reasons.Move why) = inner_move why
 inner_reason reasons.NoSuchMachine = refl
 inner_reason reasons.LineFull = refl
+inner_reason reasons.NoLane = refl
+inner_reason reasons.MachinesStand = refl
 inner_reason reasons.NotHere = refl
 inner_reason reasons.NoNeighbour = refl
 inner_reason reasons.NothingInFlight = refl

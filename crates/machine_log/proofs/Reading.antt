@@ -17,9 +17,9 @@ use Rattle.node_core.specs.declared.act.Deed.TheVariants as deeds
 use Rattle.node_core.specs.declared.act.Setting.TheVariants as settings
 use Rattle.machine_log.specs.Account.{before_blank, behind_blank, id_found, id_in, act_in, own_told, own_line, own_behind, id_of_deed, IsProperAct}
 use Rattle.machine_log.specs.declared.drives.Drives.{Drives}
-use Rattle.machine_log.specs.Texts.{log_line, line_of, lines_of, drive_line, drive_text, drives_lines, deed_text}
+use Rattle.machine_log.specs.Texts.{log_line, line_of, lines_of, drive_line, drive_text, drives_lines, deed_text, gets_text, gives_text}
 use Rattle.machine_log.proofs.Solid.{is_inner, is_solid, solid_decimal, inner_decimal, solid_id}
-use Rattle.machine_log.proofs.Inner.{inner, spaced, inner_act, inner_deed, inner_drive}
+use Rattle.machine_log.proofs.Inner.{inner, spaced, inner_act, inner_board, inner_deed, inner_drive}
 
 -- ---- a line
 
@@ -116,6 +116,12 @@ act_read told turn machine (acts.Deed deed) rest own proper = log_read turn (dee
 act_read told turn machine (acts.Drive side on) rest own proper = told_drive told turn machine side on rest own
 act_read told turn machine (acts.Inserts id) rest own proper = told_line turn machine (acts.Inserts id) rest own proper (ap (λ i. own_act own (acts.Inserts i)) (behind_number machine id proper))
 act_read told turn machine (acts.Removes id) rest own proper = told_line turn machine (acts.Removes id) rest own proper (ap (λ i. own_act own (acts.Removes i)) (behind_number machine id proper))
+act_read told turn machine (acts.Gives id to) rest own proper =
+    log_read turn (gives_text machine id) rest own (inner_board (codes "gives") machine id refl)
+    ∙ ap (λ i. own_behind [] rest (own_act own (acts.Removes i))) (behind_number machine id proper)
+act_read told turn machine (acts.Gets id) rest own proper =
+    log_read turn (gets_text machine id) rest own (inner_board (codes "gets") machine id refl)
+    ∙ ap (λ i. own_behind [] rest (own_act own (acts.Inserts i))) (behind_number machine id proper)
 act_read told turn machine (acts.Replaces old new) rest own proper = told_line turn machine (acts.Replaces old new) rest own proper (told_replaced machine old new own proper.0 proper.1)
 act_read told turn machine (acts.Sets (settings.Will side true)) rest own proper = told_line turn machine (acts.Sets (settings.Will side true)) rest own proper refl
 act_read told turn machine (acts.Tells message) rest own proper = told_line turn machine (acts.Tells message) rest own proper (told_no_own machine message.body own)

@@ -42,7 +42,8 @@ id_in text = id_found (read_id text)
 -- ---- what a line tells
 
 -- THE ACT THAT A TEXT TELLS, of those that change what a machine owns: the word, a side or a
--- machine, and the id behind them
+-- machine, and the id behind them. A board that goes to another lane is owned no more, as one that is
+-- taken out, and one that comes from there is owned as one that is put in
 abbrev pub act_in : List ℕ → Option Act
 act_in text =
     if begins_with (codes "opens ") text then Some
@@ -61,6 +62,8 @@ act_in text =
     (acts.Deed (deeds.Drops (id_in (behind_two text))))
     else if begins_with (codes "insert ") text then Some (acts.Inserts (id_in (behind_two text)))
     else if begins_with (codes "remove ") text then Some (acts.Removes (id_in (behind_two text)))
+    else if begins_with (codes "gives ") text then Some (acts.Removes (id_in (behind_two text)))
+    else if begins_with (codes "gets ") text then Some (acts.Inserts (id_in (behind_two text)))
     else if begins_with (codes "replace ") text then Some
     (acts.Replaces (id_in (before_blank (behind_two text)))
     (id_in (behind_blank (behind_two text))))
@@ -103,6 +106,8 @@ IsProperAct (acts.Sends side message) = IsName (name_of message.body)
 IsProperAct (acts.Deed deed) = id_of_deed deed < 2 ^ 128
 IsProperAct (acts.Inserts id) = id < 2 ^ 128
 IsProperAct (acts.Removes id) = id < 2 ^ 128
+IsProperAct (acts.Gives id to) = id < 2 ^ 128
+IsProperAct (acts.Gets id) = id < 2 ^ 128
 IsProperAct (acts.Replaces old new) = (old < 2 ^ 128) × (new < 2 ^ 128)
 IsProperAct (acts.Tells message) = IsName (vertical_name_of message.body)
 IsProperAct act = Unit {0}

@@ -1,5 +1,5 @@
 -- The log of a machine: its acts as the report of a line tells them, but that the gap of a deed is
--- the word of its side.
+-- the word of its side, and that each act has its line.
 use Rattle.std.specs.Prelude.{ℕ, ◌++◌, Bool, true, false, List, [], Option, None, Some, codes, decimal, flat_map, if◌then◌else◌}
 use Rattle.line_base.specs.declared.states.Side.{Side}
 use Rattle.line_base.specs.declared.states.Side.TheVariants.{Entry, Exit}
@@ -40,11 +40,21 @@ drive_text machine side on = switched (codes "drive") machine (side_text side) o
 abbrev pub drive_line : ℕ → ℕ → Side → Bool → List ℕ
 drive_line turn machine side on = log_line turn (drive_text machine side on)
 
+-- a board goes to another lane of the machine, or comes from one: the report tells both as one shift
+abbrev pub gives_text : ℕ → ℕ → List ℕ
+gives_text machine id = of_board (codes "gives") machine id
+
+abbrev pub gets_text : ℕ → ℕ → List ℕ
+gets_text machine id = of_board (codes "gets") machine id
+
 -- THE TEXT OF AN ACT, its line without the turn's number in front: the report's text of it, but
--- that the gap of a deed is the word of its side, and that a drive has a text
+-- that the gap of a deed is the word of its side, and that a drive has a text, and each half of a
+-- shift
 abbrev pub log_text : ℕ → Act → List ℕ
 log_text machine (acts.Drive side on) = drive_text machine side on
 log_text machine (acts.Deed deed) = deed_text deed
+log_text machine (acts.Gives id to) = gives_text machine id
+log_text machine (acts.Gets id) = gets_text machine id
 log_text machine act = act_text machine act
 
 -- the line of an act: a drive has one where the drives are told
@@ -52,6 +62,8 @@ abbrev pub line_of : Bool → ℕ → ℕ → Act → List ℕ
 line_of told turn machine (acts.Drive side on) =
     if told then drive_line turn machine side on else []
 line_of told turn machine (acts.Deed deed) = log_line turn (deed_text deed)
+line_of told turn machine (acts.Gives id to) = log_line turn (gives_text machine id)
+line_of told turn machine (acts.Gets id) = log_line turn (gets_text machine id)
 line_of told turn machine act = log_line turn (act_text machine act)
 
 -- THE LINES OF A STEP

@@ -28,6 +28,8 @@ fn act_is_proper(act: &Act)
         Act::Hears(_, message) | Act::Sends(_, message) => name_is_proper(message.body.what()),
         Act::Deed(deed) => deed_is_proper(*deed),
         Act::Inserts(id) | Act::Removes(id) => id_is_proper(*id),
+        Act::Gives { id, .. } => id_is_proper(*id),
+        Act::Gets { id } => id_is_proper(*id),
         Act::Replaces(old, new) => {
             id_is_proper(*old);
             id_is_proper(*new);

@@ -1,7 +1,7 @@
 ghost use Rattle.std.specs.Prelude.{◌≡◌, ◌++◌, true, Ok, OnOk};
 ghost use Rattle.line_report.specs.Texts.{act_text, switch_word};
 ghost use Rattle.node_core.specs.declared.act.Act.TheVariants as acts;
-ghost use Rattle.machine_log.specs.Texts.{at_gap, deed_text, drive_line, drive_text, drives_lines, line_of, lines_of, log_line, log_text, news_line, news_lines, refused_line, no_line};
+ghost use Rattle.machine_log.specs.Texts.{at_gap, deed_text, drive_line, drive_text, drives_lines, gets_text, gives_text, line_of, lines_of, log_line, log_text, news_line, news_lines, refused_line, no_line};
 
 use crate::drives::Drives;
 use board_record::BoardId;
@@ -19,6 +19,8 @@ pub fn write_log_text(machine: u32, act: &Act, to: &mut Vec<u8>) -> Result<(), M
     match act {
         Act::Drive(side, on) => write_drive_text(machine, *side, *on, to),
         Act::Deed(deed) => write_deed(*deed, to),
+        Act::Gives { id, .. } => write_gives(machine, *id, to),
+        Act::Gets { id } => write_gets(machine, *id, to),
         _ => write_act(machine, act, to),
     }
 }
@@ -52,6 +54,8 @@ fn write_line(
     match act {
         Act::Drive(side, on) => write_drive_if(told, turn, machine, *side, *on, to),
         Act::Deed(deed) => write_deed_line(turn, *deed, to),
+        Act::Gives { id, .. } => write_gives_line(turn, machine, *id, to),
+        Act::Gets { id } => write_gets_line(turn, machine, *id, to),
         _ => write_act_line(turn, machine, act, to),
     }
 }
@@ -200,6 +204,36 @@ fn write_deed(deed: Deed, to: &mut Vec<u8>) -> Result<(), Memory>
         Deed::Settles(id) => write_at_gap("settles", Side::Entry, id, to),
         Deed::Drops(id) => write_at_gap("drops", Side::Entry, id, to),
     }
+}
+
+fn write_gives_line(turn: u64, machine: u32, id: BoardId, to: &mut Vec<u8>) -> Result<(), Memory>
+    ensures { OnOk result (to.new.items ≡ to.old.items ++ log_line turn (gives_text machine id)) }
+{
+    written(write!(to, "{turn} "))?;
+    write_gives(machine, id, to)?;
+    written(write!(to, "\n"))
+}
+
+fn write_gets_line(turn: u64, machine: u32, id: BoardId, to: &mut Vec<u8>) -> Result<(), Memory>
+    ensures { OnOk result (to.new.items ≡ to.old.items ++ log_line turn (gets_text machine id)) }
+{
+    written(write!(to, "{turn} "))?;
+    write_gets(machine, id, to)?;
+    written(write!(to, "\n"))
+}
+
+/// Appends that a board goes to another lane of the machine.
+fn write_gives(machine: u32, id: BoardId, to: &mut Vec<u8>) -> Result<(), Memory>
+    ensures { OnOk result (to.new.items ≡ to.old.items ++ gives_text machine id) }
+{
+    written(write!(to, "gives {machine} {id}"))
+}
+
+/// Appends that a board comes from another lane of the machine.
+fn write_gets(machine: u32, id: BoardId, to: &mut Vec<u8>) -> Result<(), Memory>
+    ensures { OnOk result (to.new.items ≡ to.old.items ++ gets_text machine id) }
+{
+    written(write!(to, "gets {machine} {id}"))
 }
 
 /// Appends a word, a side and an id.

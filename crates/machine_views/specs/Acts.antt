@@ -81,3 +81,6 @@ act_seen (acts.Tells message) = told_seen message.body
 act_seen (acts.Answered query order) = record (numbered 22 0 0) { query = query }
 act_seen (acts.Sets setting) = numbered 23 0 0
 act_seen (acts.Subs id place) = of_board 24 0 place id
+-- of a machine of several lanes alone
+act_seen (acts.Gives id to) = of_board 25 0 to id
+act_seen (acts.Gets id) = of_board 26 0 0 id

@@ -24,7 +24,7 @@ pub struct HermesAct {
     pub kind: u32,
     /// The number of a side, or the place of a signal of a bridge's own in a view.
     pub side: u32,
-    /// What was seen, a message, a level or a quality, by its number, or a place of a panel.
+    /// What was seen, a message, a level or a quality, by its number, a place of a panel or a lane.
     pub what: u32,
     /// The number of a question.
     pub query: u64,
@@ -134,5 +134,7 @@ pub fn act_seen(act: &Act) -> HermesAct
         Act::Answered(query, _) => with_query(*query, numbered(22, 0, 0)),
         Act::Sets(_) => numbered(23, 0, 0),
         Act::Subs { id, pos } => of_board(24, 0, *pos, *id),
+        Act::Gives { id, to } => of_board(25, 0, *to, *id),
+        Act::Gets { id } => of_board(26, 0, 0, *id),
     }
 }

@@ -25,7 +25,7 @@ use Rattle.line_script.specs.declared.line.LineWhy.TheVariants as whys
 use Rattle.line_report.specs.declared.happening.Reason.TheVariants as reasons
 use Rattle.handover_out.specs.State as outlets
 use Rattle.handover_in.specs.State as intakes
-use Rattle.node_core.proofs.Lasting.{owns_after as steps_own}
+use Rattle.node_core.proofs.Lasting.{may_alone, owns_after as steps_own}
 use Rattle.entry_step.specs.Given.{entry_of}
 use Rattle.node_core.specs.May.{may_of, may_do}
 use Rattle.node_core.specs.Node.{NodeState}
@@ -487,7 +487,7 @@ follows_on rules s t u log lines follows (steps m) =
       told = follows.told ++ m.told;
       tells = subst P (sym m.lines) (step_lines m.turn m.told m.proper follows.tells);
       owns =
-          steps_own t.node u.node m.sensed m.input m.moment m.told m.may m.made
+          steps_own t.node u.node m.sensed m.input m.moment m.told (may_alone t.node m.input m.may) m.made
           ∙ ap (λ o. own_after o m.told) follows.owns
           ∙ sym (own_append (own_of s.node.lane.body) follows.told m.told);
     }

@@ -1,7 +1,11 @@
--- What a line gives to the machine is short enough for an entry of the book.
+-- What a line gives to the machine is short enough for an entry of the book, and what the machine may
+-- be given has one.
 use Rattle.std.proofs.Common.{◌≡◌, sym, subst}
-use Rattle.entry_step.specs.Given.{own_of}
+use Rattle.entry_step.proofs.Given.{of_one_lane}
+use Rattle.entry_step.specs.Given.{IsOfOneLane, own_of}
 use Rattle.entry_step.specs.Short.{IsShort}
+use Rattle.node_core.specs.May.{may_do, may_of}
+use Rattle.node_core.specs.Node.{NodeState}
 use Rattle.node_core.specs.declared.input.Input.{Input}
 use Rattle.node_panel.specs.declared.line.PanelLine.{PanelLine}
 use Rattle.node_panel.specs.declared.line.PanelLine.TheVariants as lines
@@ -30,3 +34,6 @@ short_input lines.End = tt
 
 pub short_by : (line : PanelLine) (input : Input) → input ≡ input_of line → IsShort (own_of input)
 short_by line input is = let P : Input → Type 0 = λ i. IsShort (own_of i) in subst P (sym is) (short_input line)
+
+pub alone_by : (s : NodeState) (input : Input) → may_of s input ≡ may_do → IsOfOneLane input
+alone_by s input may = of_one_lane s input may

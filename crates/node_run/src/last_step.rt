@@ -1,7 +1,7 @@
 //! The last step of the machine.
 
 ghost use Rattle.std.specs.Prelude.{◌≡◌, ◌≤◌, IfOk, OnOk, length};
-ghost use Rattle.entry_step.specs.Given.{entry_of, own_of};
+ghost use Rattle.entry_step.specs.Given.{IsOfOneLane, entry_of, own_of};
 ghost use Rattle.entry_step.specs.Short.{IsShort};
 ghost use Rattle.node_run.specs.State.{no_step, one_more};
 ghost use Rattle.node_run.specs.Booked.{HasForm, differ, spelled_of};
@@ -58,6 +58,7 @@ impl LastStep {
     ) -> Result<(), Memory>
         requires events { length sensed.now ≤ 65535 }
         requires short { IsShort (own_of input.now) }
+        requires alone { IsOfOneLane input.now }
         ensures { OnOk result
             (self.new ≡ one_more (entry_of sensed.now input.now moment) self.old) }
     {

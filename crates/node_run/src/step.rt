@@ -91,6 +91,7 @@ impl Run {
     }
 
     /// The machine's step and its lines. Where its messages go is for the caller.
+    #[tactic(auto, using(crate::proofs::Short::alone_by))]
     pub(crate) fn step_silently(
         &mut self,
         sensed: &[Sensed],

@@ -13,7 +13,8 @@ use Rattle.book_entry.specs.Spelling.{spelling}
 use Rattle.book_entry.specs.declared.entry.Entry.{Entry}
 use Rattle.book_entry.specs.declared.entry.OwnInput.{OwnInput}
 use Rattle.book_entry.specs.declared.entry.OwnInput.TheVariants as own
-use Rattle.entry_step.specs.Given.{own_of}
+use Rattle.entry_step.specs.Given.{IsOfOneLane, own_of}
+use Rattle.entry_step.proofs.Given.{of_one_lane}
 use Rattle.entry_step.specs.Steps.{AreEntries, DoesEntry, DoesInput, IsRefused, Replays, spelled}
 use Rattle.line_step.proofs.Once.{AreAlike, IsDry, OneMeaning, StepsOnce, steps-bytes, steps-dry}
 use Rattle.machine_log.specs.Drives.{all_off, drives_after}
@@ -133,17 +134,19 @@ lent_of d (own.Ask question) = inputs.Ask question
 lent_of d (own.Answer query order) = inputs.Answer query order
 lent_of d (own.Sub id place barcode) = inputs.Sub id place barcode
 
-lent_back : (d a : Input) → own_dry (own_of a) ≡ true → lent_of d (own_of a) ≡ a
-lent_back d (inputs.Bytes side piece) dry = absurd (cc)
-lent_back d _ dry = refl
+lent_back : (d a : Input) → IsOfOneLane a → own_dry (own_of a) ≡ true → lent_of d (own_of a) ≡ a
+lent_back d (inputs.Bytes side piece) alone dry = absurd (cc)
+lent_back d (inputs.Gives id to) alone dry = absurd alone
+lent_back d (inputs.Gets board) alone dry = absurd alone
+lent_back d _ alone dry = refl
 
 is_dry : (a : Input) → own_dry (own_of a) ≡ true → IsDry a
 is_dry (inputs.Bytes side piece) dry = absurd (cc)
 is_dry _ dry = tt
 
-dry_same : (a b : Input) (input : OwnInput) → own_dry input ≡ true → own_of a ≡ input → own_of b ≡ input → b ≡ a
-dry_same a b input dry one two =
-    sym (lent_back a b (ap own_dry two ∙ dry)) ∙ ap (lent_of a) (two ∙ sym one) ∙ lent_back a a (ap own_dry one ∙ dry)
+dry_same : (a b : Input) (input : OwnInput) → IsOfOneLane a → IsOfOneLane b → own_dry input ≡ true → own_of a ≡ input → own_of b ≡ input → b ≡ a
+dry_same a b input mine yours dry one two =
+    sym (lent_back a b yours (ap own_dry two ∙ dry)) ∙ ap (lent_of a) (two ∙ sym one) ∙ lent_back a a mine (ap own_dry one ∙ dry)
 
 record DoneOnce (a b : NodeState) (acts more : List Act) : Type 0 where
   alike : Alike a b
@@ -177,7 +180,7 @@ piece_of _ side bytes e = (let never = ap own_dry e in absurd (cc))
 
 dry_once : OneMeaning → (a b a' b' : NodeState) (sensed : List Sensed) (input : OwnInput) (moment : ℤ) (acts more : List Act) → own_dry input ≡ true → Alike a b → DoesInput a sensed input moment a' acts → DoesInput b sensed input moment b' more → DoneOnce a' b' acts more
 dry_once law a b a' b' sensed input moment acts more dry alike one two =
-    let same = dry_same one.lent two.lent input dry one.kept two.kept in
+    let same = dry_same one.lent two.lent input (of_one_lane a one.lent one.may) (of_one_lane b two.lent two.may) dry one.kept two.kept in
     let P : Input → Type 0 = λ i. Steps b sensed i moment b' more in
     done_once a' b' acts more (steps-dry (unspent a) (unspent b) (unspent a') (unspent b') sensed one.lent moment acts more alike (is_dry one.lent (ap own_dry one.kept ∙ dry)) (steps_unspent one.steps) (steps_unspent (subst P same two.steps)) refl refl)
 
@@ -194,8 +197,9 @@ does_once law a b a' b' sensed (own.Bytes side bytes) moment acts more alike one
 does_once law a b a' b' sensed own.Nothing moment acts more alike one two = dry_once law a b a' b' sensed own.Nothing moment acts more refl alike one two
 does_once law a b a' b' sensed input moment acts more alike one two = dry_once law a b a' b' sensed input moment acts more refl alike one two
 
-dry_never : (a b : NodeState) (input : OwnInput) (one two : Input) → own_dry input ≡ true → Alike a b → own_of one ≡ input → own_of two ≡ input → may_of a one ≡ may_do → may_of b two ≡ may_do
-dry_never a b input one two dry alike kept kept' may = ap (may_of b) (dry_same one two input dry kept kept') ∙ may_same one a b alike ∙ may
+dry_never : (a b : NodeState) (input : OwnInput) (one two : Input) → own_dry input ≡ true → Alike a b → own_of one ≡ input → own_of two ≡ input → IsOfOneLane two → may_of a one ≡ may_do → may_of b two ≡ may_do
+dry_never a b input one two dry alike kept kept' alone may =
+    ap (may_of b) (dry_same one two input (of_one_lane a one may) alone dry kept kept') ∙ may_same one a b alike ∙ may
 
 bytes_never : (a b : NodeState) (side : Side) (bytes : List ℕ) (one two : Input) → Alike a b → own_of one ≡ own.Bytes side bytes → own_of two ≡ own.Bytes side bytes → may_of a one ≡ may_do → may_of b two ≡ may_do
 bytes_never a b side bytes one two alike kept kept' may =
@@ -203,14 +207,14 @@ bytes_never a b side bytes one two alike kept kept' may =
     let yours = piece_of two side bytes kept' in
     ap (may_of b) yours.is ∙ may_same (inputs.Bytes side mine.piece) a b alike ∙ ap (may_of a) (sym mine.is) ∙ may
 
-may_once : (a b : NodeState) (input : OwnInput) (one two : Input) → Alike a b → own_of one ≡ input → own_of two ≡ input → may_of a one ≡ may_do → may_of b two ≡ may_do
-may_once a b (own.Bytes side bytes) one two alike kept kept' may = bytes_never a b side bytes one two alike kept kept' may
-may_once a b own.Nothing one two alike kept kept' may = dry_never a b own.Nothing one two refl alike kept kept' may
-may_once a b input one two alike kept kept' may = dry_never a b input one two refl alike kept kept' may
+may_once : (a b : NodeState) (input : OwnInput) (one two : Input) → Alike a b → own_of one ≡ input → own_of two ≡ input → IsOfOneLane two → may_of a one ≡ may_do → may_of b two ≡ may_do
+may_once a b (own.Bytes side bytes) one two alike kept kept' alone may = bytes_never a b side bytes one two alike kept kept' may
+may_once a b own.Nothing one two alike kept kept' alone may = dry_never a b own.Nothing one two refl alike kept kept' alone may
+may_once a b input one two alike kept kept' alone may = dry_never a b input one two refl alike kept kept' alone may
 
 -- what one may be given, none that is alike is refused
 never_refused : (a b : NodeState) (sensed : List Sensed) (input : OwnInput) (moment : ℤ) (t : NodeState) (acts : List Act) → Alike a b → DoesInput a sensed input moment t acts → IsRefused b input → ⊥
-never_refused a b sensed input moment t acts alike does is = is.refused (may_once a b input does.lent is.lent alike does.kept is.kept does.may)
+never_refused a b sensed input moment t acts alike does is = is.refused (may_once a b input does.lent is.lent alike does.kept is.kept is.alone does.may)
 
 -- ---- bytes begin with one entry
 

@@ -17,7 +17,7 @@ use Rattle.line_step.proofs.Numbers.{machine_within, same_or_not}
 use Rattle.one_standing.specs.Carried.{Trace}
 use Rattle.one_standing.specs.Replay.{deeds_at as deeds_of_act, deeds_of}
 use Rattle.one_standing.proofs.LedgerSteps.{IsMadeNow, deeds_by, silent_behind}
-use Rattle.one_standing.proofs.LedgerWalk.{Announces, Did, Hand, Walk, are_silent, did, hand_inserts, hand_removes, hand_replaces, hand_walks, is_silent, says_last, says_more, says_start, walk_drops, walk_end, walk_leaves, walk_loses, walk_on, walk_opens, walk_returns, walk_settles}
+use Rattle.one_standing.proofs.LedgerWalk.{Announces, Did, Hand, Walk, are_silent, did, hand_gets, hand_gives, hand_inserts, hand_removes, hand_replaces, hand_walks, is_silent, says_last, says_more, says_start, walk_drops, walk_end, walk_leaves, walk_loses, walk_on, walk_opens, walk_returns, walk_settles}
 use Rattle.running_line.specs.Reading.{Reading}
 use Rattle.running_line.specs.Running.{Running}
 use Rattle.running_line.specs.Stands.{AreInRelation, IsMade, Stands, line_of, node_in}
@@ -80,6 +80,8 @@ hand_gaps : {New : ℕ → Type 0} {own end : Own} {told : List Act} (machine : 
 hand_gaps machine (hand_walks walk) none = walk_gaps machine walk none
 hand_gaps machine (hand_inserts new) none = record { gaps = ((tt, tt), tt); none = none }
 hand_gaps machine (hand_removes has) none = record { gaps = ((tt, tt), tt); none = none }
+hand_gaps machine (hand_gives has) none = record { gaps = ((tt, tt), tt); none = none }
+hand_gaps machine hand_gets none = record { gaps = ((tt, tt), tt); none = none }
 hand_gaps machine (hand_replaces has new) none = record { gaps = ((tt, tt), tt); none = none }
 
 says_gaps : {own end : Own} {told : List Act} (machine : ℕ) → Announces own told end → end.taking ≡ None → AtGaps machine told
@@ -112,6 +114,8 @@ far_gap machine (acts.Deed (own_deeds.Drops id)) far = (far, tt)
 far_gap machine (acts.Inserts id) far = (tt, tt)
 far_gap machine (acts.Removes id) far = (tt, tt)
 far_gap machine (acts.Replaces old new) far = (tt, tt)
+far_gap machine (acts.Gives id to) far = (tt, tt)
+far_gap machine (acts.Gets id) far = (tt, tt)
 far_gap machine _ far = tt
 
 far_gaps : (machine : ℕ) (told : List Act) → 1 ≤ machine - 1 → AtGaps machine told

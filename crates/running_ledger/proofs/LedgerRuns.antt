@@ -24,8 +24,9 @@ use Rattle.running_line.specs.Timed.{AreRelated}
 use Rattle.running_line.proofs.BehindRuns.{new_related}
 use Rattle.running_line.proofs.RunsOn.{TurnGoes, step_stands}
 use Rattle.running_line.proofs.OneStand.{one_standing_of}
-use Rattle.running_ledger.specs.Told.{Follows, IsAtGap, LedgerFollows, RelationGoesOn, StandsAlong, StandsAt, acts_along, deeds_at, point_of, points_of}
+use Rattle.running_ledger.specs.Told.{Follows, IsAtGap, LedgerFollows, RelationGoesOn, StandsAlong, StandsAt, StaysInLane, acts_along, deeds_at, point_of, points_of}
 use Rattle.running_ledger.proofs.LedgerGaps.{turn_gaps}
+use Rattle.running_ledger.proofs.LedgerLanes.{turn_stays}
 use Rattle.running_ledger.proofs.LedgerTurn.{Led, told_deeds, turn_led}
 
 -- ---- a step that no machine makes: the machines are as they were
@@ -74,6 +75,14 @@ step_gaps (lets_be left) was now = tt
 step_gaps (moves moved) was now = tt
 step_gaps (lets_go {gap} {moment} {before} {after} {told} gone) was now = turn_gaps gone.turns (moved_stand gap Begin was.trace before gone.floor was.stands gone.begins) now
 
+-- and its boards stay in their lane
+step_stays : {reading : Reading} {before after : Running} {acts : List Act} (step : RunSteps reading before acts after) → AllByRecursion StaysInLane (point_of step).acts
+step_stays (turns turn) = turn_stays turn
+step_stays (asks asked) = tt
+step_stays (lets_be left) = tt
+step_stays (moves moved) = tt
+step_stays (lets_go gone) = turn_stays gone.turns
+
 -- ---- A RUN
 
 in_relation : {reading : Reading} {s : Running} → AreRelated reading s → AreInRelation s
@@ -104,6 +113,7 @@ stands_run {reading} goes (goes_on {s} {t} {u} {first} {later} step run) was =
       record {
         standing = subst (λ (x : Running). HasOneStanding (line_of x)) (sym (after_is step)) (one_standing_of now.trace t now.stands);
         gaps = step_gaps step (in_relation was) (in_relation now);
+        lane = step_stays step;
       },
       stands_run goes run now,
     )

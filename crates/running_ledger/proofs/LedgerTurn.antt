@@ -33,7 +33,7 @@ use Rattle.running_line.specs.Turns.{Turns}
 use Rattle.running_line.proofs.TurnHands.{fresh, next_made}
 use Rattle.running_line.proofs.TurnLeaves.{event_in}
 use Rattle.running_line.proofs.TurnShape.{made_then, next_there, other_nodes, own_node}
-use Rattle.running_ledger.proofs.LedgerMarks.{differ_of, taken_made}
+use Rattle.running_ledger.proofs.LedgerMarks.{differ_of, ends_of}
 
 -- the deeds of what is told of a machine's acts are those of the acts
 pub told_deeds : (machine : ℕ) (acts : List Act) → deeds_of (map (happenings.Done machine) acts) ≡ deeds_by machine acts
@@ -99,7 +99,7 @@ turn_led {machine = machine} {input = input} {before = before} {after = after} {
     let here : Fits (IsMade before) machine (own_of (node_in before machine).lane.body) others ledger =
     record { past = fits.past; is = fits.is; here = λ place x. fits.all place machine x; there = λ place other x apart. fits.all place other x; olds = fits.olds } in
     let follows : Follows (IsMade after) machine (own_of (node_in after machine).lane.body) others ledger (deeds_by machine plain) =
-    did_goes at (λ x made. made_then turn x made) does (differ_of machine was.stands) (λ id is. taken_made machine id now.stands is) ledger here in
+    did_goes at (λ x made. made_then turn x made) does (differ_of machine was.stands) (ends_of machine now.stands) ledger here in
     let last : FitsLine (IsMade after) (line_of after) (ledger_after_all ledger (deeds_by machine plain)) = record {
       past = follows.fits.past;
       is = follows.fits.is;

@@ -3,6 +3,7 @@
 use Rattle.std.specs.Prelude.{ℕ, List, [], ◌++◌, ◌∷◌, ◌≤◌, map}
 use Rattle.std.specs.List.{AllByRecursion}
 use Rattle.node_core.specs.declared.act.Act.{Act}
+use Rattle.node_core.specs.declared.act.Act.TheVariants as acts
 use Rattle.line_report.specs.declared.happening.Happening.{Happening}
 use Rattle.line_report.specs.declared.happening.Happening.TheVariants as happenings
 use Rattle.standings.specs.Ledger.{AreLegal, Ledger, empty_ledger, ledger_after_all}
@@ -83,10 +84,18 @@ IsAtGap (deeds.Settles gap id) = 1 ≤ gap
 IsAtGap (deeds.Drops gap id) = 1 ≤ gap
 IsAtGap deed = Unit {0}
 
--- behind a step each board's record has one standing, and its deeds are done at gaps
+-- a running machine has one lane: no board of it goes to another one, or comes from there
+abbrev pub StaysInLane : Act → Type 0
+StaysInLane (acts.Gives id to) = ⊥
+StaysInLane (acts.Gets id) = ⊥
+StaysInLane _ = Unit {0}
+
+-- behind a step each board's record has one standing, its deeds are done at gaps, and its boards
+-- stay in their lane
 pub record StandsAt (point : RunPoint) : Type 0 where
   pub standing : HasOneStanding (line_of point.after)
   pub gaps : AllByRecursion IsAtGap (deeds_at point)
+  pub lane : AllByRecursion StaysInLane point.acts
 
 -- ---- THE LAW
 

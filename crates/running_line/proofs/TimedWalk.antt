@@ -110,6 +110,8 @@ act_places second machine place (acts.Drive side on) s k apart = places_stay s.f
 act_places second machine place (acts.Inserts id) s k apart = place_other s.floor machine k _ apart
 act_places second machine place (acts.Removes id) s k apart = place_other s.floor machine k _ apart
 act_places second machine place (acts.Replaces old new) s k apart = place_other s.floor machine k _ apart
+act_places second machine place (acts.Gives id to) s k apart = place_other s.floor machine k _ apart
+act_places second machine place (acts.Gets id) s k apart = place_other s.floor machine k _ apart
 act_places second machine place _ s k apart = refl
 
 -- so what is beyond either side is

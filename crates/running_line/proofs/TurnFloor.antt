@@ -62,6 +62,8 @@ act_floor second machine place (acts.Drive side on) s w is = ap (drives_on machi
 act_floor second machine place (acts.Inserts id) s w is = ap (lays machine id) is
 act_floor second machine place (acts.Removes id) s w is = ap (takes_off machine id) is
 act_floor second machine place (acts.Replaces old new) s w is = ap (changes machine old new) is
+act_floor second machine place (acts.Gives id to) s w is = ap (takes_off machine id) is
+act_floor second machine place (acts.Gets id) s w is = ap (lays machine id) is
 act_floor second machine place act s w is = is
 
 pub did_floor : (second : Bool) (machine place : ℕ) (told : List Act) (s : Running) (w : WorldParts) → s.floor ≡ w.floor → (did second machine place told s).floor ≡ (line_acts second machine told w).world.floor
@@ -121,6 +123,8 @@ second_sides (acts.Drive Exit on) c e k = record { boards = k.boards; above = k.
 second_sides (acts.Inserts id) c e k = record { boards = ap (λ (bs : List Board). bs ++ record { id = Some id } ∷ []) k.boards; above = k.above; below = k.below }
 second_sides (acts.Removes id) c e k = record { boards = ap (without_board id) k.boards; above = k.above; below = k.below }
 second_sides (acts.Replaces old new) c e k = record { boards = ap (with_new_id old new) k.boards; above = k.above; below = k.below }
+second_sides (acts.Gives id to) c e k = record { boards = ap (without_board id) k.boards; above = k.above; below = k.below }
+second_sides (acts.Gets id) c e k = record { boards = ap (λ (bs : List Board). bs ++ record { id = Some id } ∷ []) k.boards; above = k.above; below = k.below }
 second_sides act c e k = k
 
 all_second_sides : (told : List Act) (c e : Scene) → SameSides c e → SameSides (all_met_second told c) (all_met told e)
@@ -141,6 +145,8 @@ left_sides (acts.Drive Exit on) c e k = record { boards = k.boards; above = k.ab
 left_sides (acts.Inserts id) c e k = record { boards = ap (λ (bs : List Board). bs ++ record { id = Some id } ∷ []) k.boards; above = k.above; below = k.below }
 left_sides (acts.Removes id) c e k = record { boards = ap (without_board id) k.boards; above = k.above; below = k.below }
 left_sides (acts.Replaces old new) c e k = record { boards = ap (with_new_id old new) k.boards; above = k.above; below = k.below }
+left_sides (acts.Gives id to) c e k = record { boards = ap (without_board id) k.boards; above = k.above; below = k.below }
+left_sides (acts.Gets id) c e k = record { boards = ap (λ (bs : List Board). bs ++ record { id = Some id } ∷ []) k.boards; above = k.above; below = k.below }
 left_sides act c e k = k
 
 all_left_sides : (told : List Act) (c e : Scene) → SameSides c e → SameSides (all_met_left told c) (all_met told e)
@@ -196,6 +202,8 @@ act_like {has = has} second (acts.Drive Exit on) k = drive_exit (has Exit) on re
 act_like {rest = rest} {near = near} {c = c} second (acts.Inserts id) k = record { place = boards_then near.place c.boards rest (λ bs. bs ++ record { id = Some id } ∷ []) k.place; above = k.above; below = k.below }
 act_like {rest = rest} {near = near} {c = c} second (acts.Removes id) k = record { place = boards_then near.place c.boards rest (without_board id) k.place; above = k.above; below = k.below }
 act_like {rest = rest} {near = near} {c = c} second (acts.Replaces old id) k = record { place = boards_then near.place c.boards rest (with_new_id old id) k.place; above = k.above; below = k.below }
+act_like {rest = rest} {near = near} {c = c} second (acts.Gives id to) k = record { place = boards_then near.place c.boards rest (without_board id) k.place; above = k.above; below = k.below }
+act_like {rest = rest} {near = near} {c = c} second (acts.Gets id) k = record { place = boards_then near.place c.boards rest (λ bs. bs ++ record { id = Some id } ∷ []) k.place; above = k.above; below = k.below }
 act_like second act k = k
 
 acts_like : {has : Side → Bool} {rest : List Sensed} (second : Bool) (told : List Act) {near : Near} {c : Scene} → IsLike has rest near c → IsLike has rest (nears_did has second told near) (all_met told c)

@@ -1,5 +1,5 @@
 -- A turn of each input, as its machine's scene has it.
-use Rattle.std.proofs.Common.{Bool, List, [], refl, subst, sym, ℕ, ℤ, ◌+◌, ◌∙◌, ◌≡◌, ◌≤◌}
+use Rattle.std.proofs.Common.{Bool, Err, List, [], refl, subst, sym, ℕ, ℤ, ◌+◌, ◌∙◌, ◌≡◌, ◌≤◌}
 use Rattle.one_standing.proofs.LineMoves.{same_gone}
 use Rattle.line_step.proofs.FloorLaws.{IsHandless}
 use Rattle.hermes_horizontal.specs.declared.message.Message.{Message}
@@ -7,7 +7,9 @@ use Rattle.line_world.specs.declared.board.Board.{Board}
 use Rattle.node_core.specs.declared.act.Act.{Act}
 use Rattle.node_core.specs.declared.input.Input.{Input}
 use Rattle.node_core.specs.declared.input.Input.TheVariants as inputs
+use Rattle.node_core.specs.declared.input.No.TheVariants as no
 use Rattle.node_core.specs.declared.word.Word.{Word}
+use Rattle.node_core.specs.May.{may_do}
 use Rattle.machine_custody.specs.Flight.{plain_fault, plain_forecast, plain_level, plain_notice, plain_query, plain_shutdown, plain_supervised, plain_tick, plain_will, plain_words}
 use Rattle.machine_custody.specs.Scene.{Scene}
 use Rattle.line_step.proofs.Numbers.{same_or_not}
@@ -63,6 +65,8 @@ turn_of j (inputs.Remove id) t st turn handless has heard = absurd handless
 turn_of j (inputs.Replace id) t st turn handless has heard = absurd handless
 turn_of j (inputs.Mark id quality) t st turn handless has heard = record { wire = asked_for; said = []; is_met = tt; into = mark_into t st turn }
 turn_of j (inputs.Sub id place barcode) t st turn handless has heard = record { wire = asked_for; said = []; is_met = tt; into = sub_into t st turn }
+turn_of j (inputs.Gives id to) t st turn handless has heard = absurd handless
+turn_of j (inputs.Gets board) t st turn handless has heard = absurd handless
 turn_of j inputs.Forecast t st turn handless has heard = record { wire = asked_for; said = []; is_met = tt; into = plain_into t st turn (has tt) tt tt plain_forecast }
 turn_of j (inputs.Query barcode) t st turn handless has heard = record { wire = asked_for; said = []; is_met = tt; into = plain_into t st turn (has tt) tt tt plain_query }
 turn_of j _ t st turn handless has heard = record { wire = asked_for; said = []; is_met = tt; into = plain_into t st turn (has tt) tt tt plain_supervised }
@@ -105,9 +109,15 @@ handless_all j input {before = before} t st turn handless has heard =
     let of : TurnOf j t turn = turn_of j input t st turn handless has (oldest_of input turn.steps.lane.words c heard) in
     record { wire = of.wire; said = of.said; is_met = of.is_met; gone = t.gone (j + 1); into = of.into; leaves = leaves_of j input t st turn handless (fit_of input turn.steps.lane.words c heard) of }
 
+-- a machine of one lane gives no board to another one, and gets none from there
+no_lane : Err no.NoLane ≡ may_do → ⊥
+no_lane may = cc
+
 pub turn_all : (j : ℕ) (input : Input) {reading : Reading} {moment : ℤ} {before after : Running} {told : List Act} (t : Trace) → Stands t before → (turn : Turns reading (j + 1) input moment before after told) → HasRead j input t turn
     → IsHeard input turn.steps.lane.words (scene_of t before j) → TurnAll j t turn
 turn_all j (inputs.Insert barcode) t st turn has heard = (let hand = insert_by_hand t st turn in record { wire = asked_for; said = []; is_met = tt; gone = hand.gone; into = hand.into; leaves = hand.leaves })
 turn_all j (inputs.Remove id) t st turn has heard = (let hand = remove_by_hand t st turn in record { wire = asked_for; said = []; is_met = tt; gone = hand.gone; into = hand.into; leaves = hand.leaves })
 turn_all j (inputs.Replace id) t st turn has heard = (let hand = replace_by_hand t st turn in record { wire = asked_for; said = []; is_met = tt; gone = hand.gone; into = hand.into; leaves = hand.leaves })
+turn_all j (inputs.Gives id to) t st turn has heard = absurd (no_lane turn.may)
+turn_all j (inputs.Gets board) t st turn has heard = absurd (no_lane turn.may)
 turn_all j input t st turn has heard = handless_all j input t st turn tt has heard

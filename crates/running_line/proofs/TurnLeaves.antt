@@ -80,6 +80,7 @@ event_fits maker (inputs.Insert barcode) words m texts heard = event_of_fits mak
 event_fits maker (inputs.Replace id) words m texts heard = event_of_fits maker (inputs.Replace id) [] m texts none_heard
 event_fits maker (inputs.Query barcode) words m texts heard = texts
 event_fits maker (inputs.Sub id place barcode) words m texts heard = event_of_fits maker (inputs.Sub id place barcode) [] m texts none_heard
+event_fits maker (inputs.Gets board) words m texts heard = texts
 event_fits maker input words m texts heard = tt
 
 pub step_fit : {reading : Reading} {machine : ℕ} {input : Input} {moment : ℤ} {before after : Running} {told : List Act} (turn : Turns reading machine input moment before after told) → IsFitNode turn.node → AreHeardFit input turn.steps.lane.words → Fits (done_in turn)

@@ -19,7 +19,7 @@ use Rattle.node_core.specs.Sound.{IsSound}
 use Rattle.node_core.specs.declared.act.Act.{Act}
 use Rattle.node_core.specs.declared.input.Input.{Input}
 use Rattle.node_core.specs.declared.lane.Body.{Body as Machine}
-use Rattle.node_core.proofs.Lasting.{sound_after}
+use Rattle.node_core.proofs.Lasting.{may_alone, sound_after}
 use Rattle.custody.specs.Pair.{Ghost, Pair}
 use Rattle.machine_custody.specs.Ahead.{IsFreeRead}
 use Rattle.machine_custody.specs.Good.{Goes}
@@ -234,7 +234,7 @@ steps_then {j = j} {input = input} {before = before} {after = after} {told = tol
 -- the machine is sound then
 sound_own : {reading : Reading} {machine : ℕ} {input : Input} {moment : ℤ} {before after : Running} {told : List Act} {t : Trace} (turn : Turns reading machine input moment before after told) → Stands t before → IsSound turn.next.capacity turn.next.lane.body
 sound_own {machine = machine} {input = input} {moment = moment} {before = before} {told = told} turn st =
-    sound_after turn.node turn.next turn.read input moment told turn.may turn.steps (subst (λ (n : NodeState). IsSound n.capacity n.lane.body) (own_node turn) (st.sound machine))
+    sound_after turn.node turn.next turn.read input moment told (may_alone turn.node input turn.may) turn.steps (subst (λ (n : NodeState). IsSound n.capacity n.lane.body) (own_node turn) (st.sound machine))
 
 keeps_then : {reading : Reading} {j : ℕ} {input : Input} {moment : ℤ} {before after : Running} {told : List Act} {t : Trace} {wire : Wire} {c : Scene} {gone : ℕ → Bool} (turn : Turns reading (j + 1) input moment before after told)
     → Stands t before → (into : TurnsInto j t wire c gone turn) → RestsThen after → AreApart (stand_of (line_of after)) (between_of (trace_then into) after)

@@ -54,7 +54,7 @@ use Rattle.node_core.specs.Bridge.{failed_front, fails, tells_level, with_level_
 use Rattle.node_core.specs.Connect.{if_open, opens, shuts_down, ticks}
 use Rattle.node_core.specs.Desk.{Desk}
 use Rattle.node_core.specs.Done.{Done, and_then, behind, done}
-use Rattle.node_core.specs.Event.{Accepted, Connect, Event, Fault, Forecast, Insert, Level, Mark, Sub, Nothing, Notice, Query, Remove, Replace, Second, Shutdown, Supervised, Tick, Will, Words, event_did}
+use Rattle.node_core.specs.Event.{Accepted, Connect, Event, Fault, Forecast, Gets, Gives, Insert, Level, Mark, Sub, Nothing, Notice, Query, Remove, Replace, Second, Shutdown, Supervised, Tick, Will, Words, event_did}
 use Rattle.node_core.specs.Halves.{behind_opening, ended, half_closed, intake_row_did, opening_board, outlet_row_did}
 use Rattle.node_core.specs.Hears.{entry_took, entry_word, exit_took, exit_word, hears, intake_took, outlet_took, passed, rowed, side_took, taken}
 use Rattle.node_core.specs.Information.{forecasts}
@@ -861,6 +861,8 @@ event_mutes side desk (Remove id) body stays off = if_kept_mutes side (is_kept i
 event_mutes side desk (Replace old new) body stays off = if_kept_mutes side (is_kept old body.kept) _ body (acts.Replaces old new) tt tt off
 event_mutes side desk (Mark id quality) body stays off = if_kept_mutes side (is_kept id body.kept) _ body (acts.Marks id quality) tt tt off
 event_mutes side desk (Sub id sub) body stays off = if_kept_mutes side (takes_sub id sub body.kept) _ body (acts.Subs id sub.pos) tt tt off
+event_mutes side desk (Gives id to) body stays off = if_kept_mutes side (is_kept id body.kept) _ body (acts.Gives id to) tt tt off
+event_mutes side desk (Gets board) body stays off = record { mute = acts_more (not_said side (acts.Gets board.id) tt tt) acts_none; off = kept_off side _ body off; may = same_may side body _ refl }
 event_mutes side desk Forecast body stays off = record { mute = forecast_mutes side desk (slice_get body.kept 0); off = off; may = same_may side body body refl }
 event_mutes side desk (Query barcode) body stays off = record { mute = query_mutes side desk barcode; off = off; may = same_may side body body refl }
 event_mutes side desk (Supervised what) body stays off = record { mute = supervision_mutes side desk what body; off = off; may = same_may side body body refl }

@@ -109,6 +109,9 @@ act_did second machine place (acts.Inserts id) s = with_floor (lays machine id s
 act_did second machine place (acts.Removes id) s = with_floor (takes_off machine id s.floor) s
 act_did second machine place (acts.Replaces old new) s =
     with_floor (changes machine old new s.floor) s
+act_did second machine place (acts.Gives id to) s =
+    with_floor (takes_off machine id s.floor) s
+act_did second machine place (acts.Gets id) s = with_floor (lays machine id s.floor) s
 act_did second machine place act s = s
 
 abbrev pub did : Bool → ℕ → ℕ → List Act → Running → Running

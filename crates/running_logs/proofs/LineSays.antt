@@ -30,7 +30,7 @@ use Rattle.line_check.specs.declared.reading.Reading.TheVariants.{Does, Nothing}
 use Rattle.line_check.specs.LogLine.{deed_in, deed_of, does, entry_deed, exit_deed, id_at_number, id_in, id_of, id_where, kind_of, reading_by, reading_of, replaced, replaced_in, said_by, said_in}
 use Rattle.line_check.specs.Words.{cut_at_space, first_word}
 use Rattle.one_standing.specs.Replay.{deeds_at, deeds_at_side}
-use Rattle.running_ledger.specs.Told.{IsAtGap}
+use Rattle.running_ledger.specs.Told.{IsAtGap, StaysInLane}
 use Rattle.running_logs.specs.Merged.{CanBeNamed, merged_line, text_of}
 use Rattle.running_logs.proofs.LineTexts.{cut_spaced, group_is, number_bytes, number_is, text_is}
 
@@ -106,17 +106,19 @@ setting_reads machine number (settings.Supervise on) = refl
 pub nothing_read : (machine : ℕ) (text : List ℕ) → kind_of (first_word text) ≡ None → reading_of machine text ≡ Nothing
 nothing_read machine text none = ap (λ (kind : Option Kind). reading_by kind machine text) none
 
-act_reads : (machine number : ℕ) (act : Act) → number < 2 ^ 32 → IsProperAct act → AllByRecursion IsAtGap (deeds_at machine act) → reading_of machine (text_of number act) ≡ reading_with (deeds_at machine act)
-act_reads machine number (acts.Deed deed) short proper gaps = deed_reads machine deed proper gaps
-act_reads machine number (acts.Inserts id) short proper gaps = hand_read kinds.Inserts machine number (id_text id) short ∙ one_read (deeds.Inserts machine) number id short proper
-act_reads machine number (acts.Removes id) short proper gaps = hand_read kinds.Removes machine number (id_text id) short ∙ one_read (deeds.Removes machine) number id short proper
-act_reads machine number (acts.Replaces old new) short proper gaps =
+act_reads : (machine number : ℕ) (act : Act) → number < 2 ^ 32 → IsProperAct act → StaysInLane act → AllByRecursion IsAtGap (deeds_at machine act) → reading_of machine (text_of number act) ≡ reading_with (deeds_at machine act)
+act_reads machine number (acts.Deed deed) short proper lane gaps = deed_reads machine deed proper gaps
+act_reads machine number (acts.Inserts id) short proper lane gaps = hand_read kinds.Inserts machine number (id_text id) short ∙ one_read (deeds.Inserts machine) number id short proper
+act_reads machine number (acts.Removes id) short proper lane gaps = hand_read kinds.Removes machine number (id_text id) short ∙ one_read (deeds.Removes machine) number id short proper
+act_reads machine number (acts.Replaces old new) short proper lane gaps =
     ap (λ (l : List ℕ). does (deed_in kinds.Replaces machine (cut_at_space l))) (regrouped (decimal number) (id_text old) (id_text new))
     ∙ hand_read kinds.Replaces machine number (id_text old ++ codes " " ++ id_text new) short
     ∙ replaces_read machine number old new short proper.0 proper.1
-act_reads machine number (acts.Tells message) short proper gaps = told_reads machine number message.body
-act_reads machine number (acts.Sets setting) short proper gaps = setting_reads machine number setting
-act_reads machine number _ short proper gaps = refl
+act_reads machine number (acts.Tells message) short proper lane gaps = told_reads machine number message.body
+act_reads machine number (acts.Sets setting) short proper lane gaps = setting_reads machine number setting
+act_reads machine number (acts.Gives id to) short proper lane gaps = absurd lane
+act_reads machine number (acts.Gets id) short proper lane gaps = absurd lane
+act_reads machine number _ short proper lane gaps = refl
 
 -- ---- THE LINE
 
@@ -124,8 +126,8 @@ line_reads : (machine number turn : ℕ) (text : List ℕ) → CanBeNamed machin
 line_reads machine number turn text named =
     ap (λ (g : Option Group). said_in g (merged_line machine turn text)) (group_is machine number turn text named) ∙ ap (reading_of machine) (text_is machine number turn text named)
 
-pub act_said : (machine number turn : ℕ) (act : Act) → CanBeNamed machine number turn → IsProperAct act → AllByRecursion IsAtGap (deeds_at machine act) → said_by (merged_line machine turn (text_of number act)) ≡ reading_with (deeds_at machine act)
-act_said machine number turn act named proper gaps = line_reads machine number turn (text_of number act) named ∙ act_reads machine number act named.short proper gaps
+pub act_said : (machine number turn : ℕ) (act : Act) → CanBeNamed machine number turn → IsProperAct act → StaysInLane act → AllByRecursion IsAtGap (deeds_at machine act) → said_by (merged_line machine turn (text_of number act)) ≡ reading_with (deeds_at machine act)
+act_said machine number turn act named proper lane gaps = line_reads machine number turn (text_of number act) named ∙ act_reads machine number act named.short proper lane gaps
 
 pub nothing_said : (machine number turn : ℕ) (text : List ℕ) → CanBeNamed machine number turn → kind_of (first_word text) ≡ None → said_by (merged_line machine turn text) ≡ Nothing
 nothing_said machine number turn text named none = line_reads machine number turn text named ∙ nothing_read machine text none

@@ -71,6 +71,7 @@ point_right ledger point points follows stand =
     record {
       legal = subst (λ (ds : List Deed). AreLegal ledger ds) same follows.0;
       gaps = subst (λ (ds : List Deed). AllByRecursion IsAtGap ds) same stand.gaps;
+      lane = stand.lane;
       stand = subst (λ (ds : List Deed). all_stand (ledger_after_all ledger ds).marks ≡ true) same (all_standing (ledger_after_all ledger (deeds_at point)) (in_line point.after) follows.1 follows.2 stand.standing);
     }
 
@@ -119,4 +120,6 @@ spelled machine turn text = sym (append_assoc (decimal machine ++ codes " ") ((d
 pub own_line : (machine number turn : ℕ) (act : Act) → (decimal machine ++ codes " ") ++ line_of true turn number act ≡ merged_line machine turn (text_of number act) ++ codes "\n"
 own_line machine number turn (acts.Drive side on) = spelled machine turn (text_of number (acts.Drive side on))
 own_line machine number turn (acts.Deed deed) = spelled machine turn (text_of number (acts.Deed deed))
+own_line machine number turn (acts.Gives id to) = spelled machine turn (text_of number (acts.Gives id to))
+own_line machine number turn (acts.Gets id) = spelled machine turn (text_of number (acts.Gets id))
 own_line machine number turn act = spelled machine turn (text_of number act)

@@ -22,7 +22,7 @@ use Rattle.line_check.proofs.Latest.{greatest_turn-push, late_by}
 use Rattle.line_check.proofs.Reasons.{ledger_of-push, or_standing, own_none, reason_at-own, regroup}
 use Rattle.one_standing.specs.Replay.{deeds_at, deeds_at_side}
 use Rattle.one_standing.proofs.LedgerSteps.{deeds_by}
-use Rattle.running_ledger.specs.Told.{IsAtGap}
+use Rattle.running_ledger.specs.Told.{IsAtGap, StaysInLane}
 use Rattle.running_logs.specs.Merged.{StepLines, merged_line, no_lines, text_of, told, untold, with_turn}
 use Rattle.running_logs.specs.Right.{IsShort}
 use Rattle.running_logs.proofs.LineSays.{act_said, reading_with}
@@ -96,10 +96,11 @@ line_right {latest} {before} {more} {machine} {turn} {line} after far next legal
 
 -- ---- the lines of a step
 
--- the deeds of the acts are legal one after the other, and done at gaps
+-- the deeds of the acts are legal one after the other, and done at gaps, and no board leaves its lane
 pub record DoneRight (machine : ℕ) (ledger : Ledger) (did : List Act) : Type 0 where
   pub legal : AreLegal ledger (deeds_by machine did)
   pub gaps : AllByRecursion IsAtGap (deeds_by machine did)
+  pub lane : AllByRecursion StaysInLane did
   pub stand : all_stand (ledger_after_all ledger (deeds_by machine did)).marks ≡ true
 
 -- what is said by the deeds of one act
@@ -190,13 +191,13 @@ step_right {machine} {number} {turn} {latest} {before} after no_lines far late s
   far = at_least machine turn late (subst (λ (l : List (List ℕ)). SoFar latest l (length after)) (sym (append-nil before)) far);
 }
 step_right {machine} {number} {turn} {latest} {before} after (untold later) far late short right =
-    let done = step_right after later far late short (record { legal = right.legal; gaps = right.gaps; stand = right.stand }) in
+    let done = step_right after later far late short (record { legal = right.legal; gaps = right.gaps; lane = right.lane.1; stand = right.stand }) in
     record { same = done.same; ledger_is = done.ledger_is; far = done.far }
 step_right {machine} {number} {turn} {latest} {before} after (told {act = act} {others = others} {lines = lines} named proper later) far late short right =
     let line : List ℕ = merged_line machine turn (text_of number act) in
     let ledger : Ledger = ledger_of before in
     let group = group_is machine number turn (text_of number act) named in
-    let said : said_by line ≡ reading_with (deeds_at machine act) = act_said machine number turn act named proper (gaps_front (deeds_at machine act) (deeds_by machine others) right.gaps) in
+    let said : said_by line ≡ reading_with (deeds_at machine act) = act_said machine number turn act named proper right.lane.0 (gaps_front (deeds_at machine act) (deeds_by machine others) right.gaps) in
     let parts = said_legal ledger (said_by line) (deeds_at machine act) (deeds_by machine others) said (one_deed machine act) right.legal in
     let now : ledger_of (before ++ line ∷ []) ≡ ledger_after_all ledger (deeds_in (said_by line)) = ledger_of-push before line in
     let last : all_stand (ledger_after_all (ledger_of (before ++ line ∷ [])) (deeds_by machine others)).marks ≡ true =
@@ -211,6 +212,7 @@ step_right {machine} {number} {turn} {latest} {before} after (told {act = act} {
     let right_later : DoneRight machine (ledger_of (before ++ line ∷ [])) others = record {
       legal = subst (λ (l : Ledger). AreLegal l (deeds_by machine others)) (sym now) parts.1;
       gaps = gaps_back (deeds_at machine act) (deeds_by machine others) right.gaps;
+      lane = right.lane.1;
       stand = last;
     } in
     let own : with_turn machine turn latest machine ≤ turn = subst (λ (n : ℕ). n ≤ turn) (sym (own_turn machine turn latest)) (omega arith) in

@@ -5,7 +5,7 @@ use Rattle.node_core.specs.declared.act.Act.{Act}
 use Rattle.node_core.specs.declared.act.Act.TheVariants as acts
 use Rattle.line_report.specs.Texts.{act_text}
 use Rattle.machine_log.specs.Account.{IsProperAct}
-use Rattle.machine_log.specs.Texts.{deed_text, drive_text}
+use Rattle.machine_log.specs.Texts.{deed_text, drive_text, gets_text, gives_text}
 use Rattle.line_check.specs.LogLine.{kind_of}
 use Rattle.line_check.specs.Words.{first_word}
 use Rattle.running_line.specs.Stands.{node_in}
@@ -17,6 +17,8 @@ use Rattle.running_ledger.specs.Told.{RunPoint}
 abbrev pub text_of : ℕ → Act → List ℕ
 text_of number (acts.Drive side on) = drive_text number side on
 text_of number (acts.Deed deed) = deed_text deed
+text_of number (acts.Gives id to) = gives_text number id
+text_of number (acts.Gets id) = gets_text number id
 text_of number act = act_text number act
 
 -- a line of the merged log: the machine's place in the line, its turn, and the text

@@ -79,6 +79,8 @@ use Rattle.node_core.specs.Event.{
   Event,
   Fault,
   Forecast,
+  Gets,
+  Gives,
   Insert,
   Level,
   Mark,
@@ -363,6 +365,12 @@ event_says at desk (Query barcode) body o opens stands least off =
     asks_say at desk barcode body (is_standing_open Entry body stands) o least off
 event_says at desk (Supervised what) body o opens stands least off =
     supervises_say at desk what body o least off
+event_says at desk (Gives id to) body o opens stands least off =
+    if_kept_says at (is_kept id body.kept) body (without id body.kept) (acts.Gives id to)
+    (λ p. record { said = (tt, tt); same = refl }) o least off
+event_says at desk (Gets board) body o opens stands least off =
+    kept_says at body (body.kept ++ board ∷ []) (acts.Gets board.id)
+    (λ p. record { said = (tt, tt); same = refl }) o least off
 
 -- ---- the three parts
 
