@@ -18,3 +18,9 @@ pub mod Stepping
 pub mod Reached
 pub mod Parted
 mod Rows
+pub mod RunsTell
+pub mod ScriptRuns
+pub mod Remembering
+pub mod Remembered
+pub mod Alone
+pub mod HasRuns

@@ -41,11 +41,11 @@ pub record IsKept (before next : Lanes) : Type 0 where
   pub together : IsTogether next
   pub lines : lines_of next ≡ lines_of before
 
-record HasDone (before : Lanes) (Does : Lanes → List LaneHappening → Type 0) : Type 0 where
-  next : Lanes
-  done : List LaneHappening
-  does : Does next done
-  kept : IsKept before next
+pub record HasDone (before : Lanes) (Does : Lanes → List LaneHappening → Type 0) : Type 0 where
+  pub next : Lanes
+  pub done : List LaneHappening
+  pub does : Does next done
+  pub kept : IsKept before next
 
 same_done : (s : Lanes) (what : List LaneHappening) → IsTogether s
     → HasDone s (steps.Becomes s what)
@@ -57,7 +57,7 @@ same_done s what is =
       kept = record { together = is; lines = refl };
     }
 
-becomes_done : (s next : Lanes) (what : List LaneHappening) → IsKept s next
+pub becomes_done : (s next : Lanes) (what : List LaneHappening) → IsKept s next
     → HasDone s (steps.Becomes next what)
 becomes_done s next what kept =
     record {
@@ -67,7 +67,7 @@ becomes_done s next what kept =
       kept = kept;
     }
 
-unless_done : (s : Lanes) (own may : May) (Does : Lanes → List LaneHappening → Type 0) → own ≡ may
+pub unless_done : (s : Lanes) (own may : May) (Does : Lanes → List LaneHappening → Type 0) → own ≡ may
     → IsTogether s → (own ≡ may_do → HasDone s Does)
     → HasDone s (λ after told. steps.Unless may s after told (Does after told))
 unless_done s own (Err why) Does same is goes = same_done s (told_once (happenings.No why)) is
@@ -137,7 +137,7 @@ more_kept is_bridge capacity used s is =
           (more_track is_bridge capacity used 1 s (first_there s is.some)));
     }
 
-request_done : (number lane : ℕ) (request : Request) (s : Lanes) → IsTogether s
+pub request_done : (number lane : ℕ) (request : Request) (s : Lanes) → IsTogether s
     → HasDone s (RequestDoes number lane request s)
 request_done number lane requests.nothing s is = same_done s [] is
 request_done number lane requests.shows s is = same_done s (shown_on s) is
@@ -153,7 +153,7 @@ request_done number lane request s is = lane_done number lane request s is tt
 
 -- ---- lanes that are set
 
-set_kept : (count : ℕ) (s : Lanes) → IsTogether s → 1 ≤ count → count ≤ most_lanes
+pub set_kept : (count : ℕ) (s : Lanes) → IsTogether s → 1 ≤ count → count ≤ most_lanes
     → IsKept s (record s { tracks = copies count (empty_track s) })
 set_kept count s is some few =
     let next : Lanes = record s { tracks = copies count (empty_track s) } in
@@ -238,7 +238,7 @@ shift_kept number before next done is seen =
       lines = shifted_lines number before next done is seen.together seen.shifted;
     }
 
-shift_done : (number machine from to id : ℕ) (s : Lanes) → IsTogether s
+pub shift_done : (number machine from to id : ℕ) (s : Lanes) → IsTogether s
     → MayShift machine from to id s → HasDone s (Shifts number machine from to id s)
 shift_done number machine from to id s is may =
     by (shift_has number machine from to id s is may) where
@@ -268,7 +268,7 @@ line_done number (lane_lines.Shift machine from to id) s is fit =
 
 -- ---- its parts
 
-counts_behind : (ends : Bool) (old lines : ℕ) → old ≡ lines → Counts old (count_behind ends lines)
+pub counts_behind : (ends : Bool) (old lines : ℕ) → old ≡ lines → Counts old (count_behind ends lines)
 counts_behind true old lines same =
     record { least = omega (arith, same); most = omega (arith, same) }
 counts_behind false old lines same =

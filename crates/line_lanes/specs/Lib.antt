@@ -6,3 +6,5 @@ pub mod Parts
 pub mod Views
 pub mod Along
 pub mod Reached
+pub mod Alone
+pub mod Once

@@ -1,4 +1,4 @@
-//! What a line of several lanes is to each of them.
+//! What a line of several lanes is to each of them, and what it tells.
 
 ghost use Rattle.line_lanes.specs.Along.{
   EachFrontIsATrack,
@@ -14,7 +14,9 @@ ghost use Rattle.line_lanes.specs.Along.{
   StandsOnLanes,
   TracksAlong,
 };
+ghost use Rattle.line_lanes.specs.Alone.{EachScriptOfOneLaneIsATrack};
 ghost use Rattle.line_lanes.specs.Lanes.{no_lanes};
+ghost use Rattle.line_lanes.specs.Once.{EachLaneScriptHasARun, EachRunRemembers, EachRunTellsOnce};
 ghost use Rattle.line_lanes.specs.Reached.{EachPartIsReached};
 
 /// The run of a script over several lanes is on each of them the run of a track, up to the first lie
@@ -81,4 +83,32 @@ pub fn each_part_is_reached()
     link_messages::laws::fit_messages_are_sayable();
     link_messages::laws::the_words_of_fit_messages_are_fit();
     link_messages::laws::the_words_behind_a_nul_are_fit();
+}
+
+/// A script that names no lane, sets no lanes and moves no board to another one does what it does
+/// over one track, and tells the same text.
+#[tactic(auto, using(crate::proofs::Alone::script_alone))]
+pub fn a_script_of_one_lane_is_a_track()
+    ensures { EachScriptOfOneLaneIsATrack }
+{}
+
+/// Each script over several lanes has a run, from a line without a machine: a point for each thing
+/// that each of its lines does.
+#[tactic(auto, using(crate::proofs::HasRuns::each_run))]
+pub fn each_script_on_lanes_has_a_run()
+    ensures { EachLaneScriptHasARun }
+{}
+
+/// A line is unvouched exactly where one of the lines of its script told what was not so, or let a
+/// board come or go unseen.
+#[tactic(auto, using(crate::proofs::Remembered::run_remembered))]
+pub fn each_run_remembers_its_lies()
+    ensures { EachRunRemembers }
+{}
+
+/// What the run of a script tells is one thing, and so are the numbers of its last line.
+pub fn each_run_tells_once()
+    ensures { EachRunTellsOnce }
+{
+    node_core::laws::one_meaning();
 }
