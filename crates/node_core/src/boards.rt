@@ -7,6 +7,7 @@ ghost use Rattle.board_record.specs.SubBoards.{unknown_sub};
 use crate::act::{Act, Outputs, Setting};
 use crate::desk::Desk;
 use crate::lane::Body;
+use crate::passage::Passage;
 use crate::shelf::Shelf;
 use board_record::{BoardId, Record, SubBoard, SubError};
 use handover_in::InInput;
@@ -70,7 +71,8 @@ impl Body {
         &mut self,
         id: BoardId,
         lane: u32,
-        slot: &mut Option<Record>,
+        desk: &Desk,
+        slot: &mut Option<Passage>,
         to: &mut Outputs,
     ) -> Result<(), Memory>
         ensures body { OnOk result (self.new ≡ (gives id lane self.old).body) }
@@ -79,7 +81,7 @@ impl Body {
     {
         match place_of(&self.kept, id) {
             Some(place) => {
-                *slot = Some(self.kept.take(place));
+                *slot = Some(Passage::of(desk.alloc(), self.kept.take(place))?);
                 to.push(Act::Gives { id, to: lane })
             }
             None => {
@@ -90,12 +92,12 @@ impl Body {
     }
 
     /// A board comes from another lane, to the back.
-    pub(crate) fn get(&mut self, board: Record, to: &mut Outputs) -> Result<(), Memory>
+    pub(crate) fn get(&mut self, board: Passage, to: &mut Outputs) -> Result<(), Memory>
         ensures body { OnOk result (self.new ≡ (gets board self.old).body) }
         ensures acts { OnOk result (to.new ≡ to.old ++ (gets board self.old).acts) }
     {
-        let id = board.id;
-        self.kept.push_back(board)?;
+        let id = board.id();
+        self.kept.push_back(board.into_record())?;
         to.push(Act::Gets { id })
     }
 

@@ -1,4 +1,5 @@
-use board_record::{BoardId, Record};
+use crate::passage::Passage;
+use board_record::BoardId;
 use hermes_vertical::Question;
 use line_base::{Quality, Side, Text};
 use smema_bridge::SegmentLine;
@@ -64,7 +65,7 @@ pub enum Input<'a> {
     },
     /// The board of this record comes from another lane of the machine. Only a shift gives it
     /// (`Node::get`): a machine of one lane refuses it.
-    Gets(Record),
+    Gets(Passage),
 }
 
 /// Why an input may not be given.

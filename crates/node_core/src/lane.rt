@@ -1,8 +1,8 @@
+use crate::inbox::Inbox;
 use crate::shelf::Shelf;
 use board_record::BoardId;
 use handover_in::Intake;
 use handover_out::Outlet;
-use hermes_stream::Cutter;
 use session_core::Session;
 
 /// One side of a lane: its session, and whether the machine is willing to hand boards over there.
@@ -28,6 +28,6 @@ pub struct Body {
 #[derive(Drop)]
 pub struct Lane {
     pub(crate) body: Body,
-    pub(crate) entry_bytes: Cutter,
-    pub(crate) exit_bytes: Cutter,
+    pub(crate) entry_bytes: Inbox,
+    pub(crate) exit_bytes: Inbox,
 }

@@ -15,6 +15,7 @@ mod forecasts;
 mod halves;
 mod hear;
 mod hermes;
+mod inbox;
 mod information;
 mod input;
 mod lane;

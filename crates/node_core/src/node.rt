@@ -23,6 +23,7 @@ use crate::bridge::{after_input, first_bridge, signal};
 use crate::desk::Desk;
 use crate::forecasts::note_forecasts;
 use crate::hermes::HermesState;
+use crate::inbox::Inbox;
 use crate::input::Input;
 use crate::lane::{Body, End, Lane};
 use crate::laws::one_meaning;
@@ -36,7 +37,6 @@ use forecast_query::Forecasts;
 use handover_in::Intake;
 use handover_out::Outlet;
 use hermes_horizontal::Info;
-use hermes_stream::Cutter;
 use line_base::{Memory, Moment, Role, Side, Text};
 use session_core::Session;
 use std::alloc::Global;
@@ -123,15 +123,14 @@ fn stand_within(lane: &Lane, forecasts: &Forecasts, orders: &OrderBook)
 
 impl Node {
     /// A machine that keeps nothing, without connections, willing on both sides; or a bridge, with
-    /// all levels off and so willing on none. It takes the memory of two cutters.
+    /// all levels off and so willing on none. The room for the bytes of a side is taken when that
+    /// side first connects.
     pub fn new(alloc: Global, profile: NodeProfile) -> Result<Node, Memory>
         requires least { 1 ≤ profile.capacity }
         requires most { profile.capacity ≤ 1024 }
         requires used { profile.used < 2 ^ 48 }
         ensures { IfOk result (λ node. node ≡ new_node profile) }
     {
-        let entry_bytes = Cutter::new(alloc)?;
-        let exit_bytes = Cutter::new(alloc)?;
         let desk = Desk::new(
             alloc,
             profile.machine,
@@ -146,8 +145,8 @@ impl Node {
             maker: IdMaker::new(profile.number, profile.used),
             lane: Lane {
                 body: first_body(alloc, profile.bridge),
-                entry_bytes,
-                exit_bytes,
+                entry_bytes: Inbox::new(),
+                exit_bytes: Inbox::new(),
             },
             forecasts: Forecasts::new(alloc),
             orders: OrderBook::new(alloc),
@@ -220,10 +219,7 @@ impl Node {
         let mut slot = None;
         let acts = self.make_step(sensed, Input::Gives { id, to }, moment, &mut slot)?;
         match slot {
-            Some(board) => Ok(Given {
-                acts,
-                board: Passage { board },
-            }),
+            Some(board) => Ok(Given { acts, board }),
             None => unreachable!(),
         }
     }
@@ -249,7 +245,7 @@ impl Node {
             (λ acts. own_of self.new.lane.body ≡ own_after (own_of self.old.lane.body) acts) }
     {
         let mut slot = None;
-        self.make_step(sensed, Input::Gets(board.board), moment, &mut slot)
+        self.make_step(sensed, Input::Gets(board), moment, &mut slot)
     }
 
     /// What its lanes share, as it is on this one. The machine has this number.
@@ -278,7 +274,7 @@ impl Node {
         sensed: &[Sensed],
         input: Input<'_>,
         moment: Moment,
-        slot: &mut Option<Record>,
+        slot: &mut Option<Passage>,
     ) -> Result<Outputs, Memory>
         requires { may_on_lane self.old input ≡ may_do }
         ensures spent { self.old.spent ≡ true → IsErr result }

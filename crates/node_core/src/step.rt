@@ -14,9 +14,9 @@ use crate::act::{Act, Outputs, Setting};
 use crate::desk::Desk;
 use crate::input::Input;
 use crate::lane::Lane;
-use crate::piece::hear_piece;
+use crate::passage::Passage;
 use crate::supervising::{Watch, ask, with_tells};
-use board_record::{BoardId, IdMaker, Record, Sensed, SubBoard};
+use board_record::{BoardId, IdMaker, Sensed, SubBoard};
 use line_base::{Memory, Quality, Side, Text};
 
 /// A circuit of which it isn't known whether it is good.
@@ -48,8 +48,8 @@ impl Lane {
             return Ok(());
         }
         match side {
-            Side::Entry => hear_piece(&mut self.body, &mut self.entry_bytes, desk, side, piece, to),
-            Side::Exit => hear_piece(&mut self.body, &mut self.exit_bytes, desk, side, piece, to),
+            Side::Entry => self.entry_bytes.hear(&mut self.body, desk, side, piece, to),
+            Side::Exit => self.exit_bytes.hear(&mut self.body, desk, side, piece, to),
         }
     }
 
@@ -60,7 +60,7 @@ impl Lane {
         ensures entry { OnOk result (self.new.entry_bytes ≡ []) }
         ensures exit { OnOk result (self.new.exit_bytes ≡ self.old.exit_bytes) }
     {
-        self.entry_bytes.clear();
+        self.entry_bytes.begin(desk.alloc())?;
         to.push(Act::Connects)?;
         self.body.open(desk, Side::Entry, to)
     }
@@ -72,7 +72,7 @@ impl Lane {
         ensures exit { OnOk result (self.new.exit_bytes ≡ []) }
         ensures entry { OnOk result (self.new.entry_bytes ≡ self.old.entry_bytes) }
     {
-        self.exit_bytes.clear();
+        self.exit_bytes.begin(desk.alloc())?;
         self.body.open(desk, Side::Exit, to)
     }
 
@@ -118,7 +118,7 @@ impl Lane {
         desk: &Desk,
         maker: &mut IdMaker,
         input: Input<'_>,
-        slot: &mut Option<Record>,
+        slot: &mut Option<Passage>,
         to: &mut Outputs,
     ) -> Result<(), Memory>
         requires offers { OffersFront self.old.body }
@@ -153,7 +153,7 @@ impl Lane {
             Input::Sub { id, pos, barcode } => {
                 self.body.add_sub(id, unknown_sub(pos, barcode), to)
             }
-            Input::Gives { id, to: lane } => self.body.give(id, lane, slot, to),
+            Input::Gives { id, to: lane } => self.body.give(id, lane, desk, slot, to),
             Input::Gets(board) => self.body.get(board, to),
         }
     }
@@ -167,7 +167,7 @@ impl Lane {
         maker: &mut IdMaker,
         unread: &[Sensed],
         input: Input<'_>,
-        slot: &mut Option<Record>,
+        slot: &mut Option<Passage>,
     ) -> Result<Outputs, Memory>
         requires offers { OffersFront self.old.body }
         requires upstream { self.old.body.exit.session.role ≡ Upstream }
