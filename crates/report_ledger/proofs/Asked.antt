@@ -47,14 +47,14 @@ place_read gap deed number id small fits =
     ∙ ap (λ (o : Option ℕ). if number == gap then deed_of_id deed o else []) (id_read id fits)
 
 -- a deed of the machine above a gap, and one of the machine below
-above_is : (gap machine : ℕ) (deed : Deed) → (if machine == gap then deed ∷ [] else []) ≡ (if machine == gap then deed ∷ [] else (if machine == gap + 1 then [] else []))
+pub above_is : (gap machine : ℕ) (deed : Deed) → (if machine == gap then deed ∷ [] else []) ≡ (if machine == gap then deed ∷ [] else (if machine == gap + 1 then [] else []))
 above_is gap machine deed = by (machine == gap) (machine == gap + 1) where
   by : (one other : Bool) → (if one then deed ∷ [] else []) ≡ (if one then deed ∷ [] else (if other then [] else []))
   by true other = refl
   by false true = refl
   by false false = refl
 
-below_is : (gap machine : ℕ) (deed : Deed) → 1 ≤ gap → (if machine - 1 == gap then deed ∷ [] else []) ≡ (if machine == gap then [] else (if machine == gap + 1 then deed ∷ [] else []))
+pub below_is : (gap machine : ℕ) (deed : Deed) → 1 ≤ gap → (if machine - 1 == gap then deed ∷ [] else []) ≡ (if machine == gap then [] else (if machine == gap + 1 then deed ∷ [] else []))
 below_is gap machine deed some = by (machine - 1 == gap) (machine == gap) (machine == gap + 1) refl refl refl where
   by : (one two three : Bool) → (machine - 1 == gap) ≡ one → (machine == gap) ≡ two → (machine == gap + 1) ≡ three → (if one then deed ∷ [] else []) ≡ (if two then [] else (if three then deed ∷ [] else []))
   by true true three a b c = absurd (let x = eqb-true (machine - 1) gap a in let y = eqb-true machine gap b in omega (arith, x, y, some))
@@ -73,7 +73,7 @@ below_is gap machine deed some = by (machine - 1 == gap) (machine == gap) (machi
   by false false false a b c = refl
 
 -- what is above, or below, of other deeds is nothing
-neither : (gap machine : ℕ) → ◌≡◌ {A = List Deed} [] (if machine == gap then [] else (if machine == gap + 1 then [] else []))
+pub neither : (gap machine : ℕ) → ◌≡◌ {A = List Deed} [] (if machine == gap then [] else (if machine == gap + 1 then [] else []))
 neither gap machine = by (machine == gap) (machine == gap + 1) where
   by : (one other : Bool) → ◌≡◌ {A = List Deed} [] (if one then [] else (if other then [] else []))
   by true other = refl
@@ -131,7 +131,7 @@ gap_append : (gap : ℕ) (a b : List ReportLine) → gap_told gap (a ++ b) ≡ g
 gap_append gap [] b = refl
 gap_append gap (line ∷ a) b = ap (λ (ds : List Deed). line_tells gap line.number line.text ++ ds) (gap_append gap a b) ∙ sym (append_assoc (line_tells gap line.number line.text) (gap_told gap a) (gap_told gap b))
 
-deeds_append : (gap : ℕ) (a b : List Happening) → gap_deeds gap (a ++ b) ≡ gap_deeds gap a ++ gap_deeds gap b
+pub deeds_append : (gap : ℕ) (a b : List Happening) → gap_deeds gap (a ++ b) ≡ gap_deeds gap a ++ gap_deeds gap b
 deeds_append gap [] b = refl
 deeds_append gap (h ∷ a) b = ap (λ (ds : List Deed). gap_deed gap h ++ ds) (deeds_append gap a b) ∙ sym (append_assoc (gap_deed gap h) (gap_deeds gap a) (gap_deeds gap b))
 
@@ -143,7 +143,7 @@ one_more gap number before past happening some proper same =
     ∙ sym (deeds_append gap past (happening ∷ []))
 
 -- what opens at a gap is told by the machine above it
-opens_is : (gap : ℕ) (happening : Happening) (id : ℕ) → gap_deed gap happening ≡ deeds.Opens id ∷ [] → happening ≡ opens_at gap id
+pub opens_is : (gap : ℕ) (happening : Happening) (id : ℕ) → gap_deed gap happening ≡ deeds.Opens id ∷ [] → happening ≡ opens_at gap id
 opens_is gap (happenings.Done machine (acts.Deed (deeds.Opens other))) id is = by (machine == gap) (machine == gap + 1) refl is where
   by : (one two : Bool) → (machine == gap) ≡ one → (if one then deeds.Opens other ∷ [] else (if two then [] else [])) ≡ deeds.Opens id ∷ [] → happenings.Done machine (acts.Deed (deeds.Opens other)) ≡ opens_at gap id
   by true two same is =

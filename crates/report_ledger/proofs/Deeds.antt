@@ -36,7 +36,7 @@ use Rattle.report_ledger.proofs.Lines.{lines_told}
 
 -- ---- a number, and an id behind it
 
-id_read : (id : ℕ) → id < 2 ^ 128 → id_of (id_text id) ≡ Some id
+pub id_read : (id : ℕ) → id < 2 ^ 128 → id_of (id_text id) ≡ Some id
 id_read id fits = ap id_in (read_id-id_text id fits)
 
 place_read : (kind : Kind) (number : ℕ) (rest : List ℕ) → number < 2 ^ 32 → deed_in kind (cut_at_space ((decimal number ++ codes " ") ++ rest)) ≡ deed_at kind number rest
@@ -72,7 +72,7 @@ hand_read kind deed number id small fits is =
     ∙ ap (λ (o : Option ℕ). option_to_list (option_map (deed number) o)) (id_read id fits)
 
 -- the words behind the number, one after the other
-regrouped : (number old new : List ℕ) → number ++ codes " " ++ old ++ codes " " ++ new ≡ number ++ codes " " ++ (old ++ codes " " ++ new)
+pub regrouped : (number old new : List ℕ) → number ++ codes " " ++ old ++ codes " " ++ new ≡ number ++ codes " " ++ (old ++ codes " " ++ new)
 regrouped number old new = ap (λ l. l ++ new) (append_assoc (number ++ codes " ") old (codes " ")) ∙ append_assoc (number ++ codes " ") (old ++ codes " ") new
 
 replaces_read : (number old new : ℕ) → number < 2 ^ 32 → old < 2 ^ 128 → new < 2 ^ 128 → option_to_list (deed_in kinds.Replaces (cut_at_space (decimal number ++ codes " " ++ id_text old ++ codes " " ++ id_text new))) ≡ deeds.Replaces number old new ∷ []

@@ -34,7 +34,7 @@ in_lane line (happenings.Done machine (acts.Gives id to)) asked = unasked line a
 in_lane line (happenings.Done machine (acts.Gets id)) asked = unasked line asked
 in_lane line _ asked = tt
 
-told_in_lane : (line : ScriptLine) (told : List Happening) → AreAskedFor (request_of line) told → AllByRecursion StaysInLane told
+pub told_in_lane : (line : ScriptLine) (told : List Happening) → AreAskedFor (request_of line) told → AllByRecursion StaysInLane told
 told_in_lane line [] asked = tt
 told_in_lane line (h ∷ told) asked = (in_lane line h asked.0, told_in_lane line told asked.1)
 

@@ -86,7 +86,7 @@ line_read front (b ∷ text) rest h =
     ∙ line_read (front ++ (b ∷ [])) text rest parts.1
     ∙ ap (λ (l : List ℕ). line_of l ∷ lines_behind [] rest) (append_assoc front (b ∷ []) text)
 
-number_read : (number : ℕ) → number < 2 ^ 32 → number_in (decimal number) ≡ Some number
+pub number_read : (number : ℕ) → number < 2 ^ 32 → number_in (decimal number) ≡ Some number
 number_read number small =
     ap (λ (b : Bool). if b then Some (value_of (decimal number)) else None) (number_is number small)
     ∙ ap (λ (v : ℕ). Some v) (value_is number (omega (arith, small)))

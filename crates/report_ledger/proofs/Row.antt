@@ -14,12 +14,12 @@ use Rattle.report_ledger.specs.ReportLines.{ReportLine, deeds_told, line_of, lin
 use Rattle.report_ledger.specs.Row.{IsReadOffTheRow, lines_of, row}
 use Rattle.report_ledger.proofs.Lines.{line_read}
 
-one_read : (words : List ℕ) (id : ℕ) (rest : List ℕ) → inner words → lines_in ((words ++ id_text id ++ codes "\n") ++ rest) ≡ line_of (words ++ id_text id) ∷ lines_in rest
+pub one_read : (words : List ℕ) (id : ℕ) (rest : List ℕ) → inner words → lines_in ((words ++ id_text id ++ codes "\n") ++ rest) ≡ line_of (words ++ id_text id) ∷ lines_in rest
 one_read words id rest w =
     ap lines_in (append_assoc (words ++ id_text id) (codes "\n") rest)
     ∙ line_read [] (words ++ id_text id) rest (join is_inner words (id_text id) w (inner_id id))
 
-abbrev at : ℕ → List ℕ → ReportLine
+abbrev pub at : ℕ → List ℕ → ReportLine
 at id words = line_of (words ++ id_text id)
 
 abbrev rows : ℕ → List ReportLine → List ReportLine
@@ -33,7 +33,7 @@ last id = codes "13 lie 1 out Left\n13 unvouched\n" ++ lines_of (codes "14 leave
 abbrev last_rows : ℕ → List ReportLine
 last_rows id = line_of (codes "13 lie 1 out Left") ∷ line_of (codes "13 unvouched") ∷ at id (codes "14 leaves 1 ") ∷ []
 
-more_read : (words : List ℕ) (others : List (List ℕ)) (id : ℕ) (rest : List ℕ) → inner words → lines_in (lines_of (words ∷ others) id ++ rest) ≡ at id words ∷ lines_in (lines_of others id ++ rest)
+pub more_read : (words : List ℕ) (others : List (List ℕ)) (id : ℕ) (rest : List ℕ) → inner words → lines_in (lines_of (words ∷ others) id ++ rest) ≡ at id words ∷ lines_in (lines_of others id ++ rest)
 more_read words others id rest w = ap lines_in (append_assoc (words ++ id_text id ++ codes "\n") (lines_of others id) rest) ∙ one_read words id (lines_of others id ++ rest) w
 
 last_read : (id : ℕ) → lines_in (last id) ≡ last_rows id

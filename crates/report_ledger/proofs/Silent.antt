@@ -65,7 +65,7 @@ acts_silent second machine (act ∷ others) world =
     let one = act_did second machine act world in
     join one.told (acts_did second machine others one.world).told (act_silent second machine act world) (acts_silent second machine others one.world)
 
-machine_silent : (number which : ℕ) (input : Input) (before after : LineState) (told : List Happening) → MachineSteps number which input before after told → AreSilent told
+pub machine_silent : (number which : ℕ) (input : Input) (before after : LineState) (told : List Happening) → MachineSteps number which input before after told → AreSilent told
 machine_silent number which input before after told steps = subst AreSilent (sym steps.told_is) (acts_silent (is_second input) which steps.acts (read_by which before.world))
 
 -- ---- what is shown

@@ -199,7 +199,7 @@ has_with : (id other : ℕ) (ids : List ℕ) → has_id id (with_id other ids) �
 has_with id other [] none = none
 has_with id other (first ∷ ids) none = with_by id other first ids (nat_lt other first) (other == first) refl (has_with id other ids) none
 
-has_ascending : (id : ℕ) (ids : List ℕ) → has_id id (ascending ids) ≡ false → has_id id ids ≡ false
+pub has_ascending : (id : ℕ) (ids : List ℕ) → has_id id (ascending ids) ≡ false → has_id id ids ≡ false
 has_ascending id [] none = refl
 has_ascending id (other ∷ ids) none =
     let parts = or_parts (other == id) (has_id id (ascending ids)) (has_with id other (ascending ids) none) in
@@ -217,7 +217,7 @@ none_owned machine id own none =
     ∙ ap (λ (b : Bool). mark_if b (marks.Outlet machine) ++ mark_if (is_held id own.taking) (marks.Intake machine)) (one_held id own.held second.0)
     ∙ ap (λ (b : Bool). mark_if b (marks.Intake machine)) (one_held id own.taking second.1)
 
-none_marked : (machine id : ℕ) (line : List Owned) → has_id id (flat_map ids_owned line) ≡ false → marks_from machine line id ≡ []
+pub none_marked : (machine id : ℕ) (line : List Owned) → has_id id (flat_map ids_owned line) ≡ false → marks_from machine line id ≡ []
 none_marked machine id [] none = refl
 none_marked machine id (own ∷ line) none =
     let two = apart_ids id (ids_owned own) (flat_map ids_owned line) none in
@@ -225,7 +225,7 @@ none_marked machine id (own ∷ line) none =
 
 -- ---- the standing that marks give
 
-same_is : (one other : Option Place) → is_same_standing one other ≡ true → one ≡ other
+pub same_is : (one other : Option Place) → is_same_standing one other ≡ true → one ≡ other
 same_is None None is = refl
 same_is None (Some other) is = absurd (let h : false ≡ true = is in cc)
 same_is (Some one) None is = absurd (let h : false ≡ true = is in cc)
@@ -302,7 +302,7 @@ run_stands id number s (line ∷ asked) (point ∷ points) (suc count) place tai
 
 -- ---- THE LAW
 
-ledger_stands : (ledger : ledgers.Ledger) (s : LineState) (id : ℕ) → IsStandingTold ledger s → standing_of (ledgers.marks_in id ledger.marks) ≡ standing_of (marks_in s id)
+pub ledger_stands : (ledger : ledgers.Ledger) (s : LineState) (id : ℕ) → IsStandingTold ledger s → standing_of (ledgers.marks_in id ledger.marks) ≡ standing_of (marks_in s id)
 ledger_stands ledger s id told = by (standing_of (marks_in s id)) (standing_of (ledgers.marks_in id ledger.marks)) refl refl where
   by : (here there : Option Place) → standing_of (marks_in s id) ≡ here → standing_of (ledgers.marks_in id ledger.marks) ≡ there → standing_of (ledgers.marks_in id ledger.marks) ≡ standing_of (marks_in s id)
   by (Some place) there is was =

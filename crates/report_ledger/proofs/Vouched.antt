@@ -13,7 +13,7 @@ use Rattle.report_ledger.proofs.Deeds.{happening_lies}
 
 -- ---- the lies of a number
 
-same_number : (number : ℕ) → (number == number) ≡ true
+pub same_number : (number : ℕ) → (number == number) ≡ true
 same_number number = eq-eqb number number refl
 
 -- of the lines of that number
@@ -32,14 +32,14 @@ others_silent number other (happening ∷ told) later differ silent =
     ap (λ (b : Bool). (b && tells_lie (happening_text happening)) || lies_at (Some number) (lines_told other told ++ later)) differ
     ∙ others_silent number other told later differ silent
 
-unnumbered_silent : (number : ℕ) (tail : List ReportLine) → AreUnnumbered tail → lies_at (Some number) tail ≡ false
+pub unnumbered_silent : (number : ℕ) (tail : List ReportLine) → AreUnnumbered tail → lies_at (Some number) tail ≡ false
 unnumbered_silent number [] none = refl
 unnumbered_silent number (line ∷ tail) none =
     ap (λ (n : Option ℕ). (has_number number n && tells_lie line.text) || lies_at (Some number) tail) none.0
     ∙ unnumbered_silent number tail none.1
 
 -- what is told without a lie
-line_silent : (same lies rest : Bool) → lies ≡ false → rest ≡ false → ((same && lies) || rest) ≡ false
+pub line_silent : (same lies rest : Bool) → lies ≡ false → rest ≡ false → ((same && lies) || rest) ≡ false
 line_silent true lies rest none silent = rw none silent
 line_silent false lies rest none silent = silent
 
@@ -86,7 +86,7 @@ going_silent number last s (point ∷ points) tail alone old within none =
 
 -- ---- what is vouched for
 
-vouched_line : (number : Option ℕ) (text : List ℕ) (later : List ReportLine) → lies_at number (line_with number text ∷ later) ≡ false → vouched (line_with number text ∷ later) ≡ line_with number text ∷ vouched later
+pub vouched_line : (number : Option ℕ) (text : List ℕ) (later : List ReportLine) → lies_at number (line_with number text ∷ later) ≡ false → vouched (line_with number text ∷ later) ≡ line_with number text ∷ vouched later
 vouched_line number text later honest = ap (λ (b : Bool). if b then [] else line_with number text ∷ vouched later) honest
 
 vouched_told : (number : ℕ) (told : List Happening) (later : List ReportLine) → lies_at (Some number) later ≡ false → told_lies told ≡ false → vouched (lines_told number told ++ later) ≡ lines_told number told ++ vouched later
@@ -101,7 +101,7 @@ vouched_lying number [] later silent lying = absurd (let h : false ≡ true = ly
 vouched_lying number (happening ∷ told) later silent lying =
     ap (λ (b : Bool). if b then [] else line_with (Some number) (happening_text happening) ∷ vouched (lines_told number told ++ later)) (lies_told number (happening ∷ told) later silent ∙ lying)
 
-vouched_unnumbered : (tail : List ReportLine) → AreUnnumbered tail → vouched tail ≡ tail
+pub vouched_unnumbered : (tail : List ReportLine) → AreUnnumbered tail → vouched tail ≡ tail
 vouched_unnumbered [] none = refl
 vouched_unnumbered (line ∷ tail) none =
     ap (λ (n : Option ℕ). if lies_at n (line ∷ tail) then [] else line ∷ vouched tail) none.0

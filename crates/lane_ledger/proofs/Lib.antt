@@ -1,0 +1,16 @@
+pub mod Words
+pub mod Inner
+pub mod Lines
+pub mod Walk
+pub mod Coming
+pub mod Deeds
+pub mod Vouched
+pub mod Alone
+pub mod Ledgered
+pub mod Asked
+pub mod Silent
+pub mod Marked
+pub mod Standings
+pub mod Fronts
+pub mod Row
+pub mod ProperOn
