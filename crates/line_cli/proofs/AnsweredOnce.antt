@@ -1,14 +1,11 @@
 -- Each input has one answer, and the program answers it, or a fault with its cause, or want of memory.
-use Rattle.std.proofs.Common.{◌≡◌, ◌∙◌, ◌≤◌, ◌<◌, ℕ, Bool, true, false, List, Option, Some, None, ap, is_some, length, nat_lt, refl, sym, arith, cond}
+use Rattle.std.proofs.Common.{◌≡◌, ◌∙◌, ◌≤◌, ◌<◌, ℕ, Bool, true, false, List, Option, Some, None, ap, length, nat_lt, refl, sym, arith, cond}
 use Rattle.std.specs.Str.Lines.{lines}
 use Rattle.std.proofs.lemmas.Bool.Decides.{nat_tests}
 use Rattle.line_check.specs.Log.{against}
-use Rattle.line_step.specs.Lies.{has_lie}
-use Rattle.line_step.specs.State.{LineState, no_line}
-use Rattle.line_step.proofs.LineOnce.{LinesAlike, script-once}
-use Rattle.line_step.proofs.Once.{OneMeaning}
-use Rattle.line_step.proofs.Playing.{script-remembered}
-use Rattle.one_report.proofs.Lines.{each_run}
+use Rattle.line_lanes.specs.Once.{EachLaneScriptHasARun, EachRunTellsOnce}
+use Rattle.line_lanes.specs.Parts.{all_points}
+use Rattle.line_lanes.specs.Views.{has_lie_on}
 use Rattle.line_cli.specs.Answered.{Answers, EachInputHasOneAnswer, IsAnswered, IsScriptAnswer, answered, log_answer, memory_wanted, sink_failed, source_failed, stream_answer}
 use Rattle.line_cli.specs.Checking.{Checks}
 use Rattle.line_cli.specs.Command.{DoesAs, HasCauses, RunsScript, status_of}
@@ -16,6 +13,7 @@ use Rattle.line_cli.specs.Making.{Makes}
 use Rattle.line_cli.specs.ReadText.{most_read}
 use Rattle.line_cli.specs.Script.{script_of}
 use Rattle.line_cli.specs.Stream.{ReadsStream}
+use Rattle.line_cli.proofs.Fronts.{script_sets}
 use Rattle.line_cli.specs.declared.status.InputWhy.{InputWhy}
 use Rattle.line_cli.specs.declared.status.InputWhy.TheVariants as inputs
 use Rattle.line_cli.specs.declared.status.Status.{Status}
@@ -34,9 +32,9 @@ sink_fault causes = sink_failed refl (causes.writes, causes.write_fault refl)
 
 run_answers : (script : List ℕ) (left old new : Option (List ℕ)) (reads reads' writes writes' : ℕ) (status : Status) → RunsScript script left old new status → HasCauses status reads reads' writes writes'
     → Told (IsScriptAnswer script) reads reads' writes writes' status
-run_answers script left old new reads reads' writes writes' statuses.Done does causes = answered (record { points = does.0.points; run = does.0.run; ends = does.0.ends })
-run_answers script left old new reads reads' writes writes' statuses.Unvouched does causes = answered (record { points = does.0.points; run = does.0.run; ends = does.0.ends })
-run_answers script left old new reads reads' writes writes' (statuses.ScriptRefused line why) does causes = answered (record { points = does.0.points; run = does.0.run; ends = does.0.ends })
+run_answers script left old new reads reads' writes writes' statuses.Done does causes = answered (record { done = does.0.done; run = does.0.run; ends = does.0.ends })
+run_answers script left old new reads reads' writes writes' statuses.Unvouched does causes = answered (record { done = does.0.done; run = does.0.run; ends = does.0.ends })
+run_answers script left old new reads reads' writes writes' (statuses.ScriptRefused line why) does causes = answered (record { done = does.0.done; run = does.0.run; ends = does.0.ends })
 run_answers script left old new reads reads' writes writes' statuses.ReadFault does causes = source_fault causes
 run_answers script left old new reads reads' writes writes' statuses.WriteFault does causes = sink_fault causes
 run_answers script left old new reads reads' writes writes' statuses.Memory does causes = memory_wanted refl
@@ -96,25 +94,21 @@ answers_so false false false None (Some bytes) left' old new rs rs' ws ws' statu
 
 -- ---- the one answer
 
-script_answer_once : OneMeaning → (script : List ℕ) (a b : Status) → IsScriptAnswer script a → IsScriptAnswer script b → a ≡ b
+script_answer_once : EachRunTellsOnce → (script : List ℕ) (a b : Status) → IsScriptAnswer script a → IsScriptAnswer script b → a ≡ b
 script_answer_once law script a b one other =
-    let asked = (script_of script).lines in
-    let alike : LinesAlike no_line no_line = record { machines = tt; same = refl } in
-    let once = script-once law no_line no_line asked one.points other.points alike one.run other.run in
-    let lied : has_lie one.points ≡ has_lie other.points =
-    sym (script-remembered asked one.points one.run) ∙ sym (ap (λ (s : LineState). is_some s.unvouched) once.alike.same) ∙ script-remembered asked other.points other.run in
-    one.ends ∙ ap (status_of (script_of script).refusal) lied ∙ sym other.ends
+    let alike = law (script_of script).lines one.done other.done one.run other.run in
+    one.ends ∙ ap (status_of (script_of script).refusal) alike.lied ∙ sym other.ends
 
-script_answer : OneMeaning → (script : List ℕ) → (status : Status) × IsScriptAnswer script status × ((other : Status) → IsScriptAnswer script other → other ≡ status)
-script_answer law script =
-    let run = each_run no_line (script_of script).lines in
-    let status = status_of (script_of script).refusal (has_lie run.points) in
-    let is : IsScriptAnswer script status = record { points = run.points; run = run.run; ends = refl } in
+script_answer : EachRunTellsOnce → EachLaneScriptHasARun → (script : List ℕ) → (status : Status) × IsScriptAnswer script status × ((other : Status) → IsScriptAnswer script other → other ≡ status)
+script_answer law runs script =
+    let run = runs (script_of script).lines (script_sets script) in
+    let status = status_of (script_of script).refusal (has_lie_on (all_points run.done)) in
+    let is : IsScriptAnswer script status = record { done = run.done; run = run.run; ends = refl } in
     (status, is, λ other is_other. script_answer_once law script other status is_other is)
 
-pub one_answer : OneMeaning → EachInputHasOneAnswer
-one_answer law true reads checks made bytes = let one = script_answer law bytes in record { status = one.0; is = one.1; only = one.2 }
-one_answer law false true checks made bytes = record { status = stream_answer bytes; is = refl; only = λ other is. is }
-one_answer law false false true made bytes = record { status = log_answer (against (lines bytes)); is = refl; only = λ other is. is }
-one_answer law false false false (Some number) bytes = record { status = statuses.Done; is = refl; only = λ other is. is }
-one_answer law false false false None bytes = record { status = statuses.Usage; is = refl; only = λ other is. is }
+pub one_answer : EachRunTellsOnce → EachLaneScriptHasARun → EachInputHasOneAnswer
+one_answer law runs true reads checks made bytes = let one = script_answer law runs bytes in record { status = one.0; is = one.1; only = one.2 }
+one_answer law runs false true checks made bytes = record { status = stream_answer bytes; is = refl; only = λ other is. is }
+one_answer law runs false false true made bytes = record { status = log_answer (against (lines bytes)); is = refl; only = λ other is. is }
+one_answer law runs false false false (Some number) bytes = record { status = statuses.Done; is = refl; only = λ other is. is }
+one_answer law runs false false false None bytes = record { status = statuses.Usage; is = refl; only = λ other is. is }

@@ -3,22 +3,22 @@ use Rattle.std.proofs.Common.{◌≡◌, ◌≤◌, ℕ, List, [], ◌∷◌, �
 use Rattle.std.specs.List.{AllByRecursion}
 use Rattle.line_script.specs.Words.{why_text}
 use Rattle.line_script.specs.declared.line.LineWhy.{LineWhy}
-use Rattle.line_script.specs.declared.line.ScriptLine.{ScriptLine}
+use Rattle.line_script.specs.declared.line.LaneLine.{LaneLine}
 use Rattle.line_report.specs.Texts.{summary_text, unvouched_text}
 use Rattle.line_report.specs.declared.summary.Summary.{Summary}
-use Rattle.line_step.specs.State.{LineState}
-use Rattle.line_step.specs.Runs.{state_behind}
-use Rattle.line_step.specs.State.{no_line}
-use Rattle.one_standing.specs.Standing.{IsFitLine}
+use Rattle.line_lanes.specs.Along.{IsFitLaneLine}
+use Rattle.line_lanes.specs.Lanes.{Lanes, no_lanes}
+use Rattle.line_lanes.specs.Parts.{all_points, state_behind}
+use Rattle.line_lanes.specs.Views.{summary_on}
 use Rattle.machine_log.proofs.Inner.{inner, inner_why}
 use Rattle.machine_log.proofs.Solid.{inner_decimal, is_inner, join}
-use Rattle.report_ledger.specs.Asked.{ReportTellsStarts}
-use Rattle.report_ledger.specs.Fronts.{FrontsTellLedgers}
-use Rattle.report_ledger.specs.Ledgers.{AreUnnumbered, ReportTellsLedger}
-use Rattle.report_ledger.specs.Standings.{ReportTellsStandings}
+use Rattle.report_ledger.specs.Ledgers.{AreUnnumbered}
 use Rattle.report_ledger.specs.ReportLines.{line_of, lines_in}
-use Rattle.report_ledger.proofs.Fronts.{first_fit}
 use Rattle.report_ledger.proofs.Lines.{line_read}
+use Rattle.lane_ledger.specs.Asked.{LaneReportTellsStarts}
+use Rattle.lane_ledger.specs.Fronts.{LaneFrontsTellLedgers}
+use Rattle.lane_ledger.specs.Ledgers.{LaneReportTellsLedger}
+use Rattle.lane_ledger.specs.Standings.{LaneReportTellsStandings}
 use Rattle.line_cli.specs.Deeds.{EachFrontTellsItsLedger, EachReportTellsItsLedger, EachReportTellsItsStandings, EachReportTellsItsStarts}
 use Rattle.line_cli.specs.Report.{ending}
 use Rattle.line_cli.specs.Script.{Refusal, script_of}
@@ -68,34 +68,48 @@ refused_unnumbered number why =
     let within : inner (refused number why) = more (line ++ codes ": ") (why_text why) (more line (codes ": ") line_in refl) (inner_why why) in
     subst AreUnnumbered (sym (alone (refused number why) within)) (refl, tt)
 
-pub ending_unnumbered : (s : LineState) (refusal : Option Refusal) → AreUnnumbered (lines_in (ending s refusal))
-ending_unnumbered s None = summary_unnumbered _
+pub ending_unnumbered : (s : Lanes) (refusal : Option Refusal) → AreUnnumbered (lines_in (ending s refusal))
+ending_unnumbered s None = summary_unnumbered (summary_on s)
 ending_unnumbered s (Some refusal) = refused_unnumbered refusal.line refusal.why
 
 -- WHATEVER BYTES A SCRIPT IS READ FROM
-pub reports_tell : ReportTellsLedger → EachReportTellsItsLedger
-reports_tell tells bytes points run proper =
+pub reports_tell : LaneReportTellsLedger → EachReportTellsItsLedger
+reports_tell tells bytes done lane some run proper =
     let fit = scripts_are_fit bytes in
-    let last = ending (state_behind no_line points) (script_of bytes).refusal in
-    tells (script_of bytes).lines points last fit.fit fit.few run proper (ending_unnumbered (state_behind no_line points) (script_of bytes).refusal)
+    let end = state_behind no_lanes (all_points done) in
+    let refusal = (script_of bytes).refusal in
+    tells (script_of bytes).lines done (ending end refusal) lane some fit.fit fit.few run proper
+    (ending_unnumbered end refusal)
 
-pub reports_stand : ReportTellsStandings → EachReportTellsItsStandings
-reports_stand stands bytes points run proper =
+pub reports_stand : LaneReportTellsStandings → EachReportTellsItsStandings
+reports_stand stands bytes done lane some run proper =
     let fit = scripts_are_fit bytes in
-    let last = ending (state_behind no_line points) (script_of bytes).refusal in
-    stands (script_of bytes).lines points last fit.fit fit.few run proper (ending_unnumbered (state_behind no_line points) (script_of bytes).refusal)
+    let end = state_behind no_lanes (all_points done) in
+    let refusal = (script_of bytes).refusal in
+    stands (script_of bytes).lines done (ending end refusal) lane some fit.fit fit.few run proper
+    (ending_unnumbered end refusal)
 
-pub reports_start : ReportTellsStarts → EachReportTellsItsStarts
-reports_start starts bytes points gap some run proper =
+pub reports_start : LaneReportTellsStarts → EachReportTellsItsStarts
+reports_start starts bytes done lane gap some least run proper =
     let fit = scripts_are_fit bytes in
-    let last = ending (state_behind no_line points) (script_of bytes).refusal in
-    starts (script_of bytes).lines points last gap some fit.fit fit.few run proper (ending_unnumbered (state_behind no_line points) (script_of bytes).refusal)
+    let end = state_behind no_lanes (all_points done) in
+    let refusal = (script_of bytes).refusal in
+    starts (script_of bytes).lines done (ending end refusal) lane gap some least fit.fit fit.few run
+    proper (ending_unnumbered end refusal)
 
 -- ---- a front
 
-pub fronts_tell : FrontsTellLedgers → EachFrontTellsItsLedger
+first_fit : (lines others : List LaneLine) → AllByRecursion IsFitLaneLine (lines ++ others)
+    → AllByRecursion IsFitLaneLine lines
+first_fit [] others fit = tt
+first_fit (line ∷ lines) others fit = (fit.0, first_fit lines others fit.1)
+
+pub fronts_tell : LaneFrontsTellLedgers → EachFrontTellsItsLedger
 fronts_tell tells bytes text first =
     let fit = scripts_are_fit bytes in
-    let P : List ScriptLine → Type 0 = AllByRecursion IsFitLine in
-    let few : length first.lines ≤ 1000000 = omega (arith, fit.few, ap length first.all, length-append first.lines first.others) in
-    tells first.lines first.points first.ending text first.rest (first_fit first.lines first.others (subst P first.all fit.fit)) few first.run first.proper first.last first.front
+    let few : length first.lines ≤ 1000000 =
+    omega (arith, fit.few, ap length first.all, length-append first.lines first.others) in
+    let fits = first_fit first.lines first.others
+    (subst (AllByRecursion IsFitLaneLine) first.all fit.fit) in
+    tells first.lines first.done first.ending text first.rest fits few first.run first.proper
+    first.last first.front

@@ -11,6 +11,7 @@ pub mod ReportOnce
 pub mod MadeOnce
 pub mod Checked
 pub mod FitScript
+pub mod Tracks
 pub mod LedgerTold
 pub mod Copied
 pub mod AnsweredOnce

@@ -4,10 +4,9 @@ use Rattle.std.specs.Prelude.{◌≡◌, ℕ, Bool, true, false, List, Option, S
 use Rattle.std.specs.Str.Lines.{lines}
 use Rattle.line_check.specs.Log.{Against, against}
 use Rattle.line_outside.specs.Faults.{Rises}
-use Rattle.line_step.specs.Lies.{has_lie}
-use Rattle.line_step.specs.Parts.{IsScriptRun}
-use Rattle.line_step.specs.Runs.{Point}
-use Rattle.line_step.specs.State.{no_line}
+use Rattle.line_lanes.specs.Lanes.{no_lanes}
+use Rattle.line_lanes.specs.Parts.{IsLaneRun, LanePoint, all_points}
+use Rattle.line_lanes.specs.Views.{has_lie_on}
 use Rattle.line_cli.specs.Command.{status_of}
 use Rattle.line_cli.specs.ReadText.{most_read}
 use Rattle.line_cli.specs.Script.{script_of}
@@ -17,9 +16,9 @@ use Rattle.line_cli.specs.declared.status.Status.TheVariants as statuses
 
 -- the answer of a script: its first refusal, and else whether a line told what was not so
 pub record IsScriptAnswer (script : List ℕ) (status : Status) : Type 0 where
-  pub points : List Point
-  pub run : IsScriptRun no_line (script_of script).lines points
-  pub ends : status ≡ status_of (script_of script).refusal (has_lie points)
+  pub done : List (List LanePoint)
+  pub run : IsLaneRun no_lanes (script_of script).lines done
+  pub ends : status ≡ status_of (script_of script).refusal (has_lie_on (all_points done))
 
 -- of a stream: whether it is too large
 abbrev pub stream_answer : List ℕ → Status

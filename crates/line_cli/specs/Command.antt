@@ -5,13 +5,12 @@ use Rattle.line_outside.specs.Sink.{Grows, PushesAll}
 use Rattle.line_outside.specs.declared.pushing.Pushed.{Pushed}
 use Rattle.line_cli.specs.Script.{Refusal, script_of}
 use Rattle.line_cli.specs.Deeds.{IsToldFirst}
+use Rattle.lane_ledger.specs.Proper.{ArePointsProper}
 use Rattle.line_cli.specs.Report.{BeginsReport, report_text}
 use Rattle.line_cli.specs.Stops.{StopsIn}
-use Rattle.report_ledger.specs.Proper.{AreProperPoints}
-use Rattle.line_step.specs.State.{no_line}
-use Rattle.line_step.specs.Parts.{IsScriptRun}
-use Rattle.line_step.specs.Runs.{Point}
-use Rattle.line_step.specs.Lies.{has_lie}
+use Rattle.line_lanes.specs.Lanes.{no_lanes}
+use Rattle.line_lanes.specs.Parts.{IsLaneRun, LanePoint, all_points}
+use Rattle.line_lanes.specs.Views.{has_lie_on}
 use Rattle.line_cli.specs.Stream.{Reads}
 use Rattle.line_cli.specs.Checking.{Checks}
 use Rattle.line_cli.specs.Making.{Makes, IsMakeStatus}
@@ -59,11 +58,11 @@ status_of (Some refusal) lied = statuses.ScriptRefused refusal.line (inputs.Line
 -- what their types allow
 pub record WritesReport (script : List ℕ) (old new : Option (List ℕ))
     (status : Status) : Type 0 where
-  pub points : List Point
-  pub run : IsScriptRun no_line (script_of script).lines points
-  pub proper : AreProperPoints points
-  pub ends : status ≡ status_of (script_of script).refusal (has_lie points)
-  pub grows : Grows old new (report_text points (script_of script).refusal)
+  pub done : List (List LanePoint)
+  pub run : IsLaneRun no_lanes (script_of script).lines done
+  pub proper : ArePointsProper (all_points done)
+  pub ends : status ≡ status_of (script_of script).refusal (has_lie_on (all_points done))
+  pub grows : Grows old new (report_text (all_points done) (script_of script).refusal)
 
 -- a front of it was written, which tells of lines that were done
 pub record WritesFront (script : List ℕ) (old new : Option (List ℕ)) : Type 0 where

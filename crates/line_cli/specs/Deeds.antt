@@ -1,59 +1,64 @@
--- WHAT IS READ OFF A REPORT: the ledger that its bytes tell, and the starts that its openings answer.
+-- WHAT IS READ OFF A REPORT of a script: of each lane the ledger that its bytes tell, the standings,
+-- and the starts that its openings answer.
 use Rattle.std.specs.Prelude.{◌≡◌, ◌≤◌, ◌++◌, List, [], ℕ}
-use Rattle.line_script.specs.declared.line.ScriptLine.{ScriptLine}
-use Rattle.line_step.specs.Parts.{IsScriptRun}
-use Rattle.line_step.specs.Runs.{Point, state_behind, told_text}
-use Rattle.line_step.specs.State.{no_line}
-use Rattle.report_ledger.specs.Fronts.{FrontTells}
-use Rattle.report_ledger.specs.Ledgers.{AreUnnumbered, TellsLedger, honest}
-use Rattle.report_ledger.specs.Asked.{OpensWereAsked}
-use Rattle.report_ledger.specs.Proper.{AreProperPoints}
+use Rattle.line_script.specs.declared.line.LaneLine.{LaneLine}
+use Rattle.line_lanes.specs.Lanes.{no_lanes}
+use Rattle.line_lanes.specs.Parts.{IsLaneRun, LanePoint, all_points, state_behind}
+use Rattle.line_lanes.specs.Views.{lanes_text}
+use Rattle.report_ledger.specs.Ledgers.{AreUnnumbered}
 use Rattle.report_ledger.specs.ReportLines.{lines_in, vouched}
-use Rattle.report_ledger.specs.Standings.{TellsStandings}
+use Rattle.lane_ledger.specs.Asked.{OpensWereAskedOn}
+use Rattle.lane_ledger.specs.Fronts.{LaneFrontTells}
+use Rattle.lane_ledger.specs.Ledgers.{TellsLaneLedger, honest_on}
+use Rattle.lane_ledger.specs.Proper.{ArePointsProper}
+use Rattle.lane_ledger.specs.Standings.{TellsLaneStandings}
 use Rattle.line_cli.specs.Report.{report_text}
 use Rattle.line_cli.specs.Script.{script_of}
 
--- THE LAW: whoever reads the deeds off the report of a script alone, up to the first line that told
--- what was not so, finds them legal, and has the ledger of the state before that line
+-- THE LAW: whoever reads the deeds of a lane off the report of a script alone, up to the first line
+-- that told what was not so, finds them legal, and has the ledger of the lane in the state before
+-- that line
 abbrev pub EachReportTellsItsLedger : Type 0
 EachReportTellsItsLedger =
-    (bytes : List ℕ) (points : List Point) → IsScriptRun no_line (script_of bytes).lines points
-    → AreProperPoints points
-    → TellsLedger (report_text points (script_of bytes).refusal)
-    (state_behind no_line (honest points))
+    (bytes : List ℕ) (done : List (List LanePoint)) (lane : ℕ) → 1 ≤ lane
+    → IsLaneRun no_lanes (script_of bytes).lines done → ArePointsProper (all_points done)
+    → TellsLaneLedger lane (report_text (all_points done) (script_of bytes).refusal)
+    (state_behind no_lanes (honest_on (all_points done)))
 
--- and of each id the standing that the text told last is the one that this ledger gives
+-- and of each id the standing that the text told last is the one that the ledger of its lane gives
 abbrev pub EachReportTellsItsStandings : Type 0
 EachReportTellsItsStandings =
-    (bytes : List ℕ) (points : List Point) → IsScriptRun no_line (script_of bytes).lines points
-    → AreProperPoints points
-    → TellsStandings (report_text points (script_of bytes).refusal)
+    (bytes : List ℕ) (done : List (List LanePoint)) (lane : ℕ) → 1 ≤ lane
+    → IsLaneRun no_lanes (script_of bytes).lines done → ArePointsProper (all_points done)
+    → TellsLaneStandings lane (report_text (all_points done) (script_of bytes).refusal)
 
--- and of the same lines, at each gap: where it reads that a handover opens, the last start that it
--- read there is of this board, and nothing was opened, refused or settled there since
+-- and of the same lines, at each gap of each lane: where it reads that a handover opens, the last
+-- start that it read there is of this board, and nothing was opened, refused or settled there since
 abbrev pub EachReportTellsItsStarts : Type 0
 EachReportTellsItsStarts =
-    (bytes : List ℕ) (points : List Point) (gap : ℕ) → 1 ≤ gap
-    → IsScriptRun no_line (script_of bytes).lines points → AreProperPoints points
-    → OpensWereAsked gap [] (vouched (lines_in (report_text points (script_of bytes).refusal)))
+    (bytes : List ℕ) (done : List (List LanePoint)) (lane gap : ℕ) → 1 ≤ lane → 1 ≤ gap
+    → IsLaneRun no_lanes (script_of bytes).lines done → ArePointsProper (all_points done)
+    → OpensWereAskedOn lane gap []
+    (vouched (lines_in (report_text (all_points done) (script_of bytes).refusal)))
 
 -- a text is a front of what the first lines of a script tell, or of that with a last line behind it;
--- their ids and names are what their types allow
+-- their ids, names and lanes are what their types allow
 pub record IsToldFirst (bytes text : List ℕ) : Type 0 where
-  pub lines : List ScriptLine
-  pub others : List ScriptLine
+  pub lines : List LaneLine
+  pub others : List LaneLine
   pub all : (script_of bytes).lines ≡ lines ++ others
-  pub points : List Point
-  pub run : IsScriptRun no_line lines points
-  pub proper : AreProperPoints points
+  pub done : List (List LanePoint)
+  pub run : IsLaneRun no_lanes lines done
+  pub proper : ArePointsProper (all_points done)
   pub ending : List ℕ
   pub last : AreUnnumbered (lines_in ending)
   pub rest : List ℕ
-  pub front : text ++ rest ≡ told_text 1 points ++ ending
+  pub front : text ++ rest ≡ lanes_text 1 (all_points done) ++ ending
 
--- and whoever has such a front alone, as a fault may leave it, reads off its lines before those of
--- its last number the ledger and the standings behind the lines of the script with smaller ones
+-- whoever has such a front alone, as a fault may leave it, reads off its lines before those of its
+-- last number the ledger and the standings of each lane behind the lines of the script with smaller
+-- ones
 abbrev pub EachFrontTellsItsLedger : Type 0
 EachFrontTellsItsLedger =
     (bytes text : List ℕ) → (first : IsToldFirst bytes text)
-    → FrontTells text first.lines first.points
+    → LaneFrontTells text first.lines first.done

@@ -3,11 +3,11 @@ use Rattle.line_outside.specs.Faults.{Rose}
 use Rattle.line_outside.specs.Sink.{Grows, GrowsInPart}
 use Rattle.line_outside.specs.declared.pushing.Pushed.{Pushed}
 use Rattle.line_outside.specs.declared.pushing.Pushed.TheVariants as pushes
-use Rattle.line_script.specs.declared.line.ScriptLine.{ScriptLine}
-use Rattle.line_step.specs.State.{no_line}
-use Rattle.line_step.specs.Parts.{IsScriptRun}
-use Rattle.line_step.specs.Runs.{Point, state_behind, told_text}
-use Rattle.report_ledger.specs.Proper.{AreProperPoints}
+use Rattle.line_script.specs.declared.line.LaneLine.{LaneLine}
+use Rattle.line_lanes.specs.Lanes.{no_lanes}
+use Rattle.line_lanes.specs.Parts.{IsLaneRun, LanePoint, all_points, state_behind}
+use Rattle.line_lanes.specs.Views.{lanes_text}
+use Rattle.lane_ledger.specs.Proper.{ArePointsProper}
 use Rattle.line_cli.specs.Script.{script_of, behind_lines}
 use Rattle.line_cli.specs.Reader.{Place, script_behind}
 use Rattle.line_cli.specs.declared.script_run.RunError.{RunError}
@@ -20,14 +20,14 @@ use Rattle.line_cli.specs.declared.status.InputWhy.TheVariants as inputs
 -- written tells of them, and the others are still to come
 pub record IsGoing (script rest : List ℕ) (old now : Option (List ℕ)) (place : Place)
     (text : List ℕ) : Type 0 where
-  pub asked : List ScriptLine
-  pub points : List Point
-  pub run : IsScriptRun no_line asked points
-  pub proper : AreProperPoints points
-  pub after : state_behind no_line points ≡ place.state
+  pub asked : List LaneLine
+  pub done : List (List LanePoint)
+  pub run : IsLaneRun no_lanes asked done
+  pub proper : ArePointsProper (all_points done)
+  pub after : state_behind no_lanes (all_points done) ≡ place.state
   pub shown : List ℕ
   pub grows : Grows old now shown
-  pub told : shown ++ text ≡ told_text 1 points
+  pub told : shown ++ text ≡ lanes_text 1 (all_points done)
   pub taken : List ℕ
   pub parts : taken ++ rest ≡ script
   pub ever : (other : List ℕ)

@@ -12,5 +12,6 @@ pub mod ReadText
 pub mod Stream
 pub mod StreamReader
 pub mod Premises
+pub mod Tracks
 pub mod Deeds
 pub mod Answered

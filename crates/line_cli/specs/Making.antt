@@ -7,10 +7,10 @@ use Rattle.line_script.specs.Words.{number_in}
 use Rattle.line_script.specs.declared.line.LineWhy.{LineWhy}
 use Rattle.line_script.specs.declared.line.ScriptLine.{ScriptLine}
 use Rattle.line_report.specs.Texts.{summary_text}
-use Rattle.line_step.specs.State.{LineState, no_line}
-use Rattle.line_step.specs.Parts.{IsScriptRun}
-use Rattle.line_step.specs.Runs.{Point, state_behind, told_text}
-use Rattle.line_step.specs.Views.{summary_of}
+use Rattle.line_lanes.specs.Alone.{on_firsts}
+use Rattle.line_lanes.specs.Lanes.{Lanes, lines_of, no_lanes}
+use Rattle.line_lanes.specs.Parts.{IsLaneRun, LanePoint, all_points, state_behind}
+use Rattle.line_lanes.specs.Views.{lanes_text, summary_on}
 use Rattle.made_script.specs.Fold.{fold_from, fold_of}
 use Rattle.made_script.specs.Script.{made_script}
 use Rattle.line_cli.specs.Report.{report_text}
@@ -34,33 +34,33 @@ made_number (word ∷ []) = None
 made_number (word ∷ number ∷ []) = number_behind word number
 made_number (word ∷ number ∷ other ∷ others) = None
 
--- while the script runs: these lines were done, and what was folded and what waits is what they
--- are told of
-pub record IsFolding (asked : List ScriptLine) (state : LineState) (folded : ℕ)
+-- while the script runs: these lines were done, all on the first lane, and what was folded and what
+-- waits is what they are told of
+pub record IsFolding (asked : List ScriptLine) (state : Lanes) (folded : ℕ)
     (text : List ℕ) : Type 0 where
-  pub points : List Point
-  pub run : IsScriptRun no_line asked points
-  pub after : state_behind no_line points ≡ state
-  pub counted : state.lines ≡ length asked
-  pub told : fold_from folded text ≡ fold_of (told_text 1 points)
+  pub done : List (List LanePoint)
+  pub run : IsLaneRun no_lanes (on_firsts asked) done
+  pub after : state_behind no_lanes (all_points done) ≡ state
+  pub counted : lines_of state ≡ length asked
+  pub told : fold_from folded text ≡ fold_of (lanes_text 1 (all_points done))
 
 -- the last line of a report, and behind it in the same line the fold of the whole, of which the
 -- other lines have this one
-pub record IsLastLine (end : LineState) (fold : ℕ) (text : List ℕ) : Type 0 where
+pub record IsLastLine (end : Lanes) (fold : ℕ) (text : List ℕ) : Type 0 where
   pub last : List ℕ
-  pub ends : summary_text (summary_of end) ≡ last ++ codes "\n"
+  pub ends : summary_text (summary_on end) ≡ last ++ codes "\n"
   pub written : text ≡ last
-      ++ (codes " fold=" ++ decimal (fold_from fold (summary_text (summary_of end))) ++ codes "\n")
+      ++ (codes " fold=" ++ decimal (fold_from fold (summary_text (summary_on end))) ++ codes "\n")
 
--- THE MAKE TEXT of a number: the last line of the report of its made script, and behind it in the
--- same line the fold of that whole report
+-- THE MAKE TEXT of a number: the last line of the report of its made script, whose lines are of the
+-- first lane, and behind it in the same line the fold of that whole report
 pub record IsMakeText (number : ℕ) (text : List ℕ) : Type 0 where
-  pub points : List Point
-  pub run : IsScriptRun no_line (made_script number) points
+  pub done : List (List LanePoint)
+  pub run : IsLaneRun no_lanes (on_firsts (made_script number)) done
   pub last : List ℕ
-  pub ends : summary_text (summary_of (state_behind no_line points)) ≡ last ++ codes "\n"
-  pub written : text ≡ last ++ (codes " fold=" ++ decimal (fold_of (report_text points None))
-      ++ codes "\n")
+  pub ends : summary_text (summary_on (state_behind no_lanes (all_points done))) ≡ last ++ codes "\n"
+  pub written : text ≡ last
+      ++ (codes " fold=" ++ decimal (fold_of (report_text (all_points done) None)) ++ codes "\n")
 
 -- a number has a make text, and no other text is one
 pub record HasOneMakeText (number : ℕ) : Type 0 where

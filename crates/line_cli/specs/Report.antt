@@ -1,27 +1,26 @@
 -- THE REPORT of a script: what its lines did, each with its number, and a last line.
 use Rattle.std.specs.Prelude.{◌≡◌, ℕ, ◌++◌, List, Option, None, Some}
-use Rattle.line_step.specs.State.{LineState, no_line}
-use Rattle.line_step.specs.Parts.{IsScriptRun}
-use Rattle.line_step.specs.Runs.{Point, state_behind, told_text}
 use Rattle.line_report.specs.Texts.{summary_text}
-use Rattle.line_step.specs.Views.{summary_of}
+use Rattle.line_lanes.specs.Lanes.{Lanes, no_lanes}
+use Rattle.line_lanes.specs.Parts.{IsLaneRun, LanePoint, all_points, state_behind}
+use Rattle.line_lanes.specs.Views.{lanes_text, summary_on}
 use Rattle.line_cli.specs.Texts.{refused_text}
 use Rattle.line_cli.specs.Script.{Refusal, script_of}
 
 -- the last line: the summary, or the line that is refused
-abbrev pub ending : LineState → Option Refusal → List ℕ
-ending s None = summary_text (summary_of s)
+abbrev pub ending : Lanes → Option Refusal → List ℕ
+ending s None = summary_text (summary_on s)
 ending s (Some refusal) = refused_text refusal.line refusal.why
 
 -- the report's text for the points of a run
-abbrev pub report_text : List Point → Option Refusal → List ℕ
-report_text points refusal = told_text 1 points ++ ending (state_behind no_line points) refusal
+abbrev pub report_text : List LanePoint → Option Refusal → List ℕ
+report_text points refusal = lanes_text 1 points ++ ending (state_behind no_lanes points) refusal
 
 -- a text is the report of a script
 pub record IsReport (bytes text : List ℕ) : Type 0 where
-  pub points : List Point
-  pub run : IsScriptRun no_line (script_of bytes).lines points
-  pub written : text ≡ report_text points (script_of bytes).refusal
+  pub done : List (List LanePoint)
+  pub run : IsLaneRun no_lanes (script_of bytes).lines done
+  pub written : text ≡ report_text (all_points done) (script_of bytes).refusal
 
 -- what a report begins with: a front of the report that the script has, and nothing else
 pub record BeginsReport (bytes text : List ℕ) : Type 0 where

@@ -3,10 +3,10 @@ use Rattle.std.specs.Str.Lines.{lines}
 use Rattle.line_script.specs.Grammar.{read_of}
 use Rattle.line_script.specs.declared.line.LineWhy.{LineWhy}
 use Rattle.line_script.specs.declared.line.LineWhy.TheVariants as whys
-use Rattle.line_script.specs.declared.line.ScriptLine.{ScriptLine}
+use Rattle.line_script.specs.declared.line.LaneLine.{LaneLine}
 
 -- what the line with this number asks for, or the first refusal that holds
-abbrev pub meaning_at : ℕ → List ℕ → Result ScriptLine LineWhy
+abbrev pub meaning_at : ℕ → List ℕ → Result LaneLine LineWhy
 meaning_at number line =
     if nat_lt 4096 (length line) then Err whys.LongLine else
     (if nat_lt 1000000 number then Err whys.TooManyLines else read_of line)
@@ -18,18 +18,18 @@ pub record Refusal : Type 0 where
 
 -- a script: its accepted lines, and the first refusal if there is one
 pub record Script : Type 0 where
-  pub lines : List ScriptLine
+  pub lines : List LaneLine
   pub refusal : Option Refusal
 
 abbrev pub either : {A E B : Type 0} → Result A E → (A → B) → (E → B) → B
 either (Ok value) f g = f value
 either (Err why) f g = g why
 
-abbrev pub before_all : ScriptLine → Script → Script
+abbrev pub before_all : LaneLine → Script → Script
 before_all line script = record { lines = line ∷ script.lines; refusal = script.refusal }
 
 -- the same, behind all of these lines
-abbrev pub behind_lines : List ScriptLine → Script → Script
+abbrev pub behind_lines : List LaneLine → Script → Script
 behind_lines done script = record { lines = done ++ script.lines; refusal = script.refusal }
 
 abbrev pub refused_at : ℕ → LineWhy → Script

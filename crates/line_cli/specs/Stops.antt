@@ -1,14 +1,14 @@
 -- WHERE A RUN STOPS whose script is refused: what was taken of the source, and what is left there.
 use Rattle.std.specs.Prelude.{◌≡◌, ◌≤◌, ◌++◌, ℕ, List, [], Option, Some, length}
 use Rattle.std.specs.Str.Lines.{lines}
-use Rattle.line_script.specs.declared.line.ScriptLine.{ScriptLine}
+use Rattle.line_script.specs.declared.line.LaneLine.{LaneLine}
 use Rattle.line_cli.specs.LineEnds.{HasNoEnd}
 use Rattle.line_cli.specs.Script.{behind_lines, script_from, script_of}
 
 -- no line is refused that ends within these bytes: whatever follows them, the script is these
 -- lines, and behind them what the line that has not ended yet begins
 pub record AreAccepted (bytes : List ℕ) : Type 0 where
-  pub accepted : List ScriptLine
+  pub accepted : List LaneLine
   pub done : ℕ
   pub pending : List ℕ
   pub none : HasNoEnd pending

@@ -3,6 +3,7 @@ ghost use Rattle.contents_kept.specs.Contents.{ContentsStayWhole};
 ghost use Rattle.contents_kept.specs.There.{StandingsNameWhatIsThere};
 ghost use Rattle.first_in_first_out.specs.Order.{FirstInFirstOut};
 ghost use Rattle.line_step.specs.FloorIds.{IdsStay};
+ghost use Rattle.line_lanes.specs.Alone.{EachScriptOfOneLaneIsATrack};
 ghost use Rattle.line_history.specs.LetGo.{WhatSettlesLeft};
 ghost use Rattle.line_history.specs.Offered.{WhatSettlesWasOffered};
 ghost use Rattle.line_history.specs.Opened.{WhatOpensStarted};
@@ -26,9 +27,12 @@ ghost use Rattle.line_cli.specs.Making.{EachNumberHasOneMakeText, made_number};
 ghost use Rattle.line_cli.specs.Premises.{ScriptsAreFit};
 ghost use Rattle.line_cli.specs.ReadText.{EachStreamHasOneReadText};
 ghost use Rattle.line_cli.specs.Report.{EachScriptHasOneReport};
+ghost use Rattle.line_cli.specs.Tracks.{EachFrontIsRun, EachLaneIsRun, EachRecordHasOneLane, EachRecordStandsOnLanes};
 
 use crate::checking::check_merged;
-use crate::laws::{each_input_has_one_answer, one_make_text, one_report, read_once};
+use crate::laws::{
+    each_input_has_one_answer, each_lane_is_run, one_make_text, one_report, read_once,
+};
 use crate::making::{made_number, write_made};
 use crate::reading::read_stream;
 use crate::running::run_script;
@@ -79,6 +83,16 @@ pub fn line_main<S: Source, K: Sink>(
     ensures reading { EachStreamHasOneReadText }
     // and each number a make text
     ensures made { EachNumberHasOneMakeText }
+    // on each lane the run of every script is the run of a track
+    ensures lanes { EachLaneIsRun }
+    // up to the first lie on any lane one of which the laws over runs below speak
+    ensures lane_fronts { EachFrontIsRun }
+    // so each record stands with one machine or in one named handover of its lane
+    ensures lane_standing { EachRecordStandsOnLanes }
+    // and up to that no record is on two lanes
+    ensures one_lane { EachRecordHasOneLane }
+    // a script that names no lane does and tells what it does over one track
+    ensures alone { EachScriptOfOneLaneIsATrack }
     // unique ids on the floor, and ids that stay, over the run of every script
     ensures ids { IdsStay }
     // each record with one machine or in one named handover, over the run of every script up to
@@ -90,11 +104,12 @@ pub fn line_main<S: Source, K: Sink>(
     ensures custody { CustodyFacts }
     // what the report tells of records is what becomes of them
     ensures ledger { LedgerFollows }
-    // and so its bytes, read by someone who has them alone, give the ledger of where each record is
+    // and so the bytes of the report of a script, read by someone who has them alone, give the
+    // ledger of where each record is on each lane
     ensures tells { EachReportTellsItsLedger }
     // the one that gives each id the standing that they told of it last
     ensures told { EachReportTellsItsStandings }
-    // and each opening that they tell answers the last start at its gap
+    // and each opening that they tell answers the last start at its gap of that lane
     ensures starts { EachReportTellsItsStarts }
     // and of a front that a fault leaves, cut anywhere, the lines before those of its last number
     // give the ledger behind the lines of the script of which they tell
@@ -139,13 +154,16 @@ pub fn line_main<S: Source, K: Sink>(
     read_once();
     one_make_text();
     each_input_has_one_answer();
+    each_lane_is_run();
+    line_lanes::laws::each_script_on_lanes_has_a_run();
+    line_lanes::laws::a_script_of_one_lane_is_a_track();
     one_standing::laws::one_standing_after_each_line();
     one_standing::laws::the_custody_facts_hold_after_each_line();
     one_standing::laws::the_ledger_follows_the_report();
-    report_ledger::laws::a_report_tells_its_ledger();
-    report_ledger::laws::a_report_tells_its_standings();
-    report_ledger::laws::a_report_tells_its_starts();
-    report_ledger::laws::a_front_tells_its_ledger();
+    lane_ledger::laws::a_report_tells_the_ledger_of_each_lane();
+    lane_ledger::laws::a_report_tells_the_standings_of_each_lane();
+    lane_ledger::laws::a_report_tells_the_starts_of_each_lane();
+    lane_ledger::laws::a_front_tells_the_ledger_of_each_lane();
     first_in_first_out::laws::boards_go_in_the_order_in_which_they_came();
     contents_kept::laws::contents_are_kept_over_each_line();
     contents_kept::laws::contents_stay_whole();

@@ -5,6 +5,7 @@ ghost use Rattle.line_cli.specs.Answered.{EachInputHasOneAnswer};
 ghost use Rattle.line_cli.specs.Making.{IsMakeText};
 ghost use Rattle.line_cli.specs.ReadText.{IsReadText};
 ghost use Rattle.line_cli.specs.Report.{IsReport};
+ghost use Rattle.line_cli.specs.Tracks.{EachFrontIsRun, EachLaneIsRun, EachRecordHasOneLane, EachRecordStandsOnLanes};
 
 /// A stream of messages has one read text.
 pub fn read_once()
@@ -21,7 +22,7 @@ pub fn one_report()
     ensures { (bytes one other : List ℕ) → IsReport bytes one → IsReport bytes other
         → one ≡ other }
 {
-    node_core::laws::one_meaning();
+    line_lanes::laws::each_run_tells_once();
 }
 
 /// A number has one make text.
@@ -29,7 +30,19 @@ pub fn one_make_text()
     ensures { (number : ℕ) (one other : List ℕ) → IsMakeText number one → IsMakeText number other
         → one ≡ other }
 {
-    node_core::laws::one_meaning();
+    line_lanes::laws::each_run_tells_once();
+}
+
+/// On each lane the run of a script that is read is the run of a track; up to the first line that
+/// told what was not so, on whatever lane, one of which each law over runs speaks: each board has one
+/// standing on its lane, and no record is on two.
+pub fn each_lane_is_run()
+    ensures lanes { EachLaneIsRun }
+    ensures fronts { EachFrontIsRun }
+    ensures standing { EachRecordStandsOnLanes }
+    ensures one_lane { EachRecordHasOneLane }
+{
+    line_lanes::laws::each_lane_is_a_track();
 }
 
 /// Whatever words and bytes have one answer of `line_main`, where nothing fails and memory is
@@ -38,5 +51,6 @@ pub fn one_make_text()
 pub fn each_input_has_one_answer()
     ensures { EachInputHasOneAnswer }
 {
-    node_core::laws::one_meaning();
+    line_lanes::laws::each_run_tells_once();
+    line_lanes::laws::each_script_on_lanes_has_a_run();
 }

@@ -13,5 +13,5 @@ mod status;
 mod stream_reader;
 
 pub use command::line_main;
-pub use laws::{each_input_has_one_answer, one_make_text, one_report, read_once};
+pub use laws::{each_input_has_one_answer, each_lane_is_run, one_make_text, one_report, read_once};
 pub use status::{InputWhy, Status};

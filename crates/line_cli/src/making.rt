@@ -1,8 +1,9 @@
 //! The made script of a number: how its report ends, and the fold of the whole.
 
 ghost use Rattle.std.specs.Prelude.{◌≡◌, ◌≤◌, ◌<◌, ℕ, [], false, IfOk, IfSome, OnOk};
+ghost use Rattle.line_lanes.specs.Alone.{on_first};
+ghost use Rattle.line_lanes.specs.Lanes.{lines_of, no_lanes};
 ghost use Rattle.line_script.specs.Ranges.{IsWithin};
-ghost use Rattle.line_step.specs.State.{no_line};
 ghost use Rattle.made_script.specs.Fold.{fold_from};
 ghost use Rattle.made_script.specs.Script.{made_script};
 ghost use Rattle.line_cli.specs.Command.{HasCauses};
@@ -14,8 +15,8 @@ use crate::script_run::ScriptRun;
 use crate::status::Status;
 use line_base::{Memory, Word};
 use line_outside::{Pushed, Sink, push_all};
-use line_script::ScriptLine;
 use line_script::words::number;
+use line_script::{LaneLine, ScriptLine};
 use made_script::{MadeScript, folded};
 use std::alloc::Global;
 use std::io::Write;
@@ -82,7 +83,7 @@ fn make_text(alloc: Global, number: u32) -> Result<Vec<u8>, Memory>
 /// Runs a made script on a new run, and answers the last line of its report with the fold of the
 /// whole behind it.
 fn text_of_run(alloc: Global, number: u32, run: &mut ScriptRun) -> Result<Vec<u8>, Memory>
-    requires new { run.old ≡ no_line }
+    requires new { run.old ≡ no_lanes }
     requires few { number ≤ 50000 }
     ensures { IfOk result (λ text. IsMakeText number text.items) }
 {
@@ -92,7 +93,7 @@ fn text_of_run(alloc: Global, number: u32, run: &mut ScriptRun) -> Result<Vec<u8
 
 /// Runs a made script, and answers the fold of what its lines are told of.
 fn run_made(alloc: Global, number: u32, run: &mut ScriptRun) -> Result<u32, Memory>
-    requires new { run.old ≡ no_line }
+    requires new { run.old ≡ no_lanes }
     requires few { number ≤ 50000 }
     ensures folds { IfOk result (λ fold. IsFolding (made_script number) run.new fold []) }
     ensures unspent { OnOk result (run.new.spent ≡ false) }
@@ -106,16 +107,17 @@ fn run_made(alloc: Global, number: u32, run: &mut ScriptRun) -> Result<u32, Memo
     Ok(folded(fold, told.as_slice()))
 }
 
-/// Does a line of a made script.
+/// Does a line of a made script, which is of the first lane.
 fn do_made(run: &mut ScriptRun, line: ScriptLine, told: &mut Vec<u8>) -> Result<(), Memory>
     requires unspent { run.old.spent ≡ false }
-    requires few { run.old.lines < 1000000 }
+    requires few { lines_of run.old < 1000000 }
     requires within { IsWithin line }
-    ensures does { OnOk result (DoesAsked line run.old run.new told.old.items told.new.items) }
+    ensures does { OnOk result (DoesAsked (on_first line) run.old run.new told.old.items told.new.items) }
     ensures unspent { OnOk result (run.new.spent ≡ false) }
 {
-    let done = run.do_asked(&line, told);
-    drop(line);
+    let asked = LaneLine::On { lane: 1, line };
+    let done = run.do_asked(&asked, told);
+    drop(asked);
     done
 }
 

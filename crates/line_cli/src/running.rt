@@ -1,5 +1,5 @@
 ghost use Rattle.std.specs.Prelude.{◌≡◌, ◌<◌, ◌≤◌, [], length, take};
-ghost use Rattle.line_step.specs.State.{no_line};
+ghost use Rattle.line_lanes.specs.Lanes.{no_lanes};
 ghost use Rattle.line_cli.specs.Command.{Runs, HasCauses, IsRunStatus};
 ghost use Rattle.line_cli.specs.Reader.{IsNumbered};
 ghost use Rattle.line_cli.specs.Ending.{PushesFull, EndsWhole, EndsRefused};
@@ -21,6 +21,9 @@ pub fn run_script<S: Source, K: Sink>(alloc: Global, script: &mut S, report: &mu
     ensures causes { HasCauses result (S.faults script.old) (S.faults script.new)
         (K.faults report.old) (K.faults report.new) }
 {
+    line_lanes::laws::each_script_on_lanes_has_a_run();
+    line_lanes::laws::each_run_tells_once();
+    line_lanes::laws::each_run_remembers_its_lies();
     let mut room = match vec![in alloc; 0u8; PIECE_BYTES] {
         Ok(room) => room,
         Err(_) => return Status::Memory,
@@ -40,7 +43,7 @@ fn run_pieces<S: Source, K: Sink>(
     text: &mut Vec<u8>,
     report: &mut K,
 ) -> Status
-    requires new { reader.old ≡ record { state = no_line; pending = [] } }
+    requires new { reader.old ≡ record { state = no_lanes; pending = [] } }
     requires room { 0 < length room.old }
     requires small { length room.old ≤ 65536 }
     requires none { text.old.items ≡ [] }
@@ -50,6 +53,9 @@ fn run_pieces<S: Source, K: Sink>(
     ensures causes { HasCauses result (S.faults script.old) (S.faults script.new)
         (K.faults report.old) (K.faults report.new) }
 {
+    line_lanes::laws::each_script_on_lanes_has_a_run();
+    line_lanes::laws::each_run_tells_once();
+    line_lanes::laws::each_run_remembers_its_lies();
     loop {
         match script.pull(room) {
             Pull::Bytes(count) => {

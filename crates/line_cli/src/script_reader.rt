@@ -1,6 +1,6 @@
 ghost use Rattle.std.specs.Prelude.{◌≡◌, ◌≤◌, [], ◌∷◌, ◌++◌, IfErr, IfNone, IfSome, OnOk, false, is_some, length, vec_len};
 ghost use Rattle.std.specs.Str.Lines.{strip_carriage_return};
-ghost use Rattle.line_step.specs.State.{no_line};
+ghost use Rattle.line_lanes.specs.Lanes.{lines_of, no_lanes, unvouched_of};
 ghost use Rattle.line_cli.specs.Reader.{Place, Takes, Finishes, IsNumbered, progress_of};
 ghost use Rattle.line_cli.specs.LineEnds.{HasNoEnd, IsFirstEnd, CutsLine};
 
@@ -25,13 +25,13 @@ impl Model for ScriptReader {
     ghost view = { λ reader. record { state = reader.run; pending = reader.pending.items } };
 
     ghost invariant = { λ reader. HasNoEnd reader.pending.items × (vec_len reader.pending ≤ 4097)
-        × (reader.run.spent ≡ false → reader.run.lines ≤ 1000000) };
+        × (reader.run.spent ≡ false → lines_of reader.run ≤ 1000000) };
 }
 
 impl ScriptReader {
     /// A reader before its script.
     pub fn new(alloc: Global) -> ScriptReader
-        ensures { result ≡ record { state = no_line; pending = [] } }
+        ensures { result ≡ record { state = no_lanes; pending = [] } }
     {
         ScriptReader {
             run: ScriptRun::new(alloc),
@@ -78,7 +78,7 @@ impl ScriptReader {
     /// Whether a line told what was not so.
     pub fn is_unvouched(&self) -> bool
         requires { self.now.state.spent ≡ false }
-        ensures { result ≡ is_some self.now.state.unvouched }
+        ensures { result ≡ is_some (unvouched_of self.now.state) }
     {
         self.run.is_unvouched()
     }

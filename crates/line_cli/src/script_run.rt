@@ -1,12 +1,13 @@
 ghost use Rattle.std.specs.Prelude.{◌≡◌, ◌<◌, ◌≤◌, ◌+◌, ◌++◌, IfErr, OnOk, false, is_some};
-ghost use Rattle.line_step.specs.State.{no_line};
-ghost use Rattle.line_script.specs.Ranges.{IsWithin};
-ghost use Rattle.line_cli.specs.Reader.{DoesAsked, DoesLine, IsNumbered, RefusesAs, Sums, entries};
+ghost use Rattle.line_lanes.specs.Lanes.{lines_of, no_lanes, unvouched_of};
+ghost use Rattle.line_script.specs.Ranges.{IsLaneWithin};
+ghost use Rattle.line_cli.specs.Reader.{DoesAsked, DoesLine, IsNumbered, RefusesAs, Sums};
 
+use lane_ledger::lanes_are_proper;
 use line_base::Memory;
-use line_engine::{Happening, Line, write_happening, write_summary};
-use line_script::{LineError, LineWhy, MOST_LINE_BYTES, ScriptLine, read_line};
-use report_ledger::happenings_are_proper;
+use line_engine::Line;
+use line_report::{write_all, write_summary};
+use line_script::{LaneLine, LineError, LineWhy, MOST_LINE_BYTES, read_line};
 use std::alloc::Global;
 use std::io::Write;
 use std::marker::Model;
@@ -33,19 +34,19 @@ pub struct ScriptRun {
 
 impl Model for ScriptRun {
     ghost use Rattle.std.specs.Prelude.{◌≡◌, ◌≤◌, false};
-    ghost use Rattle.line_step.specs.State.{LineState};
+    ghost use Rattle.line_lanes.specs.Lanes.{Lanes, lines_of};
 
-    ghost Value = { LineState };
+    ghost Value = { Lanes };
 
     ghost view = { λ run. run.line };
 
-    ghost invariant = { λ run. run.line.spent ≡ false → (run.done ≡ run.line.lines) × (run.done ≤ 1000000) };
+    ghost invariant = { λ run. run.line.spent ≡ false → (run.done ≡ lines_of run.line) × (run.done ≤ 1000000) };
 }
 
 impl ScriptRun {
     /// A run before its first line, with no machines.
     pub fn new(alloc: Global) -> ScriptRun
-        ensures { result ≡ no_line }
+        ensures { result ≡ no_lanes }
     {
         ScriptRun {
             alloc,
@@ -60,7 +61,7 @@ impl ScriptRun {
         requires unspent { self.old.spent ≡ false }
         ensures does { DoesLine result self.old self.new line.now to.old.items to.new.items }
         ensures unspent { OnOk result (self.new.spent ≡ false) }
-        ensures few { self.new.spent ≡ false → self.new.lines ≤ 1000000 }
+        ensures few { self.new.spent ≡ false → lines_of self.new ≤ 1000000 }
         ensures numbered { IfErr result IsNumbered }
     {
         let number = self.done + 1;
@@ -86,26 +87,25 @@ impl ScriptRun {
 
     /// Does a line that was read, as the next of the script, and appends the report's lines for
     /// what it did.
-    pub fn do_asked(&mut self, asked: &ScriptLine, to: &mut Vec<u8>) -> Result<(), Memory>
+    pub fn do_asked(&mut self, asked: &LaneLine, to: &mut Vec<u8>) -> Result<(), Memory>
         requires unspent { self.old.spent ≡ false }
-        requires few { self.old.lines < 1000000 }
-        requires within { IsWithin asked.now }
+        requires few { lines_of self.old < 1000000 }
+        requires within { IsLaneWithin asked.now }
         ensures does { OnOk result (DoesAsked asked.now self.old self.new to.old.items to.new.items) }
         ensures unspent { OnOk result (self.new.spent ≡ false) }
-        ensures few { self.new.spent ≡ false → self.new.lines ≤ 1000000 }
+        ensures few { self.new.spent ≡ false → lines_of self.new ≤ 1000000 }
     {
         let number = self.done + 1;
         let told = self.line.step(number, asked)?;
         self.done = number;
-        let listed = told.list();
-        happenings_are_proper(listed);
-        write_told(number, listed, to)
+        lanes_are_proper(&told);
+        write_all(number, &told, to)
     }
 
     /// Refuses the next line as too long.
     pub fn refuse_long(&self, to: &mut Vec<u8>) -> Result<(), RunError>
         requires unspent { self.now.spent ≡ false }
-        ensures refuses { RefusesAs result (self.now.lines + 1) LineWhy.LongLine to.old.items to.new.items }
+        ensures refuses { RefusesAs result (lines_of self.now + 1) LineWhy.LongLine to.old.items to.new.items }
         ensures numbered { IfErr result IsNumbered }
     {
         refuse(self.done + 1, LineWhy::LongLine, to)
@@ -114,7 +114,7 @@ impl ScriptRun {
     /// Whether a line told what was not so.
     pub fn is_unvouched(&self) -> bool
         requires { self.now.spent ≡ false }
-        ensures { result ≡ is_some self.now.unvouched }
+        ensures { result ≡ is_some (unvouched_of self.now) }
     {
         self.line.summary().unvouched.is_some()
     }
@@ -140,14 +140,4 @@ fn refuse(line: u64, why: LineWhy, to: &mut Vec<u8>) -> Result<(), RunError>
         Ok(()) => Err(RunError::Refused { line, why }),
         Err(_) => Err(RunError::Memory),
     }
-}
-
-/// Appends the lines of the report for what a script line did.
-fn write_told(number: u64, told: &[Happening], to: &mut Vec<u8>) -> Result<(), Memory>
-    ensures { OnOk result (to.new.items ≡ to.old.items ++ entries number told.now) }
-{
-    for happening in told {
-        write_happening(number, happening, to)?;
-    }
-    Ok(())
 }

@@ -6,7 +6,7 @@ use Rattle.std.proofs.lemmas.List.{drop_more, drop_all, take-append-drop, take_m
 use Rattle.std.proofs.lemmas.Option.{slice_get-get_or, slice_get_past}
 use Rattle.standings.specs.Marks.{is_held}
 use Rattle.line_report.specs.declared.happening.Happening.{Happening}
-use Rattle.line_step.specs.Named.{ids_named}
+use Rattle.line_step.specs.Named.{ids_named, ids_of_happening}
 use Rattle.line_step.specs.Shown.{ascending, with_id}
 use Rattle.line_step.proofs.Ascending.{all-with_id, all_is_ascending, choose_false, choose_true, with_above, with_all, with_below, with_same}
 use Rattle.line_engine.specs.Stepped.{with_ids}
@@ -76,5 +76,13 @@ pub ids_ascend : (ids : List ℕ) → with_ids ids [] ≡ ascending ids
 ids_ascend ids = with_ids_is ids [] ∙ all_is_ascending ids
 
 -- the loop over what is told has come to the end
-pub ids_end : (told : List Happening) (place : ℕ) (ids : List ℕ) → length told ≤ place → with_ids (ids_named (drop place told)) ids ≡ with_ids (ids_named told) [] → ids ≡ ascending (ids_named told)
-ids_end told place ids h is = sym (ap (λ (rest : List Happening). with_ids (ids_named rest) ids) (drop_all place told h)) ∙ is ∙ ids_ascend (ids_named told)
+pub ids_end : (told : List Happening) (place : ℕ) (ids first : List ℕ) → length told ≤ place → with_ids (ids_named (drop place told)) ids ≡ with_ids (ids_named told) first → ids ≡ with_ids (ids_named told) first
+ids_end told place ids first h is = sym (ap (λ (rest : List Happening). with_ids (ids_named rest) ids) (drop_all place told h)) ∙ is
+
+-- those of two lists one behind the other
+pub ids_both : (given got : List Happening) → with_ids (ids_named got) (with_ids (ids_named given) []) ≡ ascending (ids_named (given ++ got))
+ids_both given got = sym (with_ids-append (ids_named given) (ids_named got) []) ∙ ap (λ (ids : List ℕ). with_ids ids []) (sym (named_append given got)) ∙ ids_ascend (ids_named (given ++ got))
+  where
+    named_append : (given got : List Happening) → ids_named (given ++ got) ≡ ids_named given ++ ids_named got
+    named_append [] got = refl
+    named_append (happening ∷ given) got = ap (λ (ids : List ℕ). ids_of_happening happening ++ ids) (named_append given got) ∙ sym (append_assoc (ids_of_happening happening) (ids_named given) (ids_named got))

@@ -77,13 +77,13 @@ abbrev pub Restores : ℕ → ℕ → LineState → LineState → Type 0
 Restores first last before after = owned_with first (owned_between first last (owned before)) (owned after) ≡ owned before
 
 -- the machines after a step
-stepped : (number place machine : ℕ) (input : Input) (before after : LineState) (told : List Happening) → machine ≡ suc place → (m : MachineSteps number machine input before after told) → after.machines ≡ slice_set before.machines place m.next
+pub stepped : (number place machine : ℕ) (input : Input) (before after : LineState) (told : List Happening) → machine ≡ suc place → (m : MachineSteps number machine input before after told) → after.machines ≡ slice_set before.machines place m.next
 stepped number place machine input before after told is m =
     ap (λ (s : LineState). s.machines) m.after_is
     ∙ ap (λ (n : ℕ). slice_set before.machines (n - 1) m.next) is
     ∙ ap (λ (n : ℕ). slice_set before.machines n m.next) (sub-one (suc place))
 
-one_step : (number machine : ℕ) (input : Input) (before start after : LineState) (told : List Happening) → start.machines ≡ before.machines → MachineSteps number machine input start after told → Restores machine machine before after
+pub one_step : (number machine : ℕ) (input : Input) (before start after : LineState) (told : List Happening) → start.machines ≡ before.machines → MachineSteps number machine input start after told → Restores machine machine before after
 one_step number zero input before start after told same m = let none = m.there in cc
 one_step number (suc place) input before start after told same m =
     ap (λ (owns : List Owned). owned_with (suc place) owns (owned after)) (between_is place (suc place) 1 (owned before) (omega arith))
@@ -108,21 +108,21 @@ added_none true capacity s = refl
 added_none false capacity s = refl
 
 -- the machines that a request may step
-abbrev last_asked : Request → ℕ
+abbrev pub last_asked : Request → ℕ
 last_asked (requests.gives machine input) = machine
 last_asked (requests.connects machine) = machine
 last_asked (requests.flows machine side count) = machine
 last_asked _ = 0
 
-abbrev first_asked : Request → ℕ
+abbrev pub first_asked : Request → ℕ
 first_asked (requests.connects machine) = machine - 1
 first_asked request = last_asked request
 
-first_is : (line : ScriptLine) → first_asked (request_of line) ≡ first_stepped line
+pub first_is : (line : ScriptLine) → first_asked (request_of line) ≡ first_stepped line
 first_is lines.Blank = refl
 first_is _ = refl
 
-last_is : (line : ScriptLine) → last_asked (request_of line) ≡ last_stepped line
+pub last_is : (line : ScriptLine) → last_asked (request_of line) ≡ last_stepped line
 last_is lines.Blank = refl
 last_is _ = refl
 

@@ -34,7 +34,7 @@ pub record IsGivenTo (machine : ℕ) (input : Input) (s : LineState) (one : Node
   pub there : machine_in machine s ≡ Some one
   pub may : node.may_of one input ≡ node.may_do
 
-place_is : (machine : ℕ) (s : LineState) (found one : NodeState) → machine_in machine s ≡ Some found → one ≡ slice_index_or s.machines (machine - 1) one → found ≡ one
+pub place_is : (machine : ℕ) (s : LineState) (found one : NodeState) → machine_in machine s ≡ Some found → one ≡ slice_index_or s.machines (machine - 1) one → found ≡ one
 place_is zero s found one there at = absurd (cc)
 place_is (suc place) s found one there at =
     let same : suc place - 1 ≡ place = omega arith in

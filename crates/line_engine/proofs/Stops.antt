@@ -1,88 +1,112 @@
--- The parts of a stop, one behind the other; and a line that is its own part.
-use Rattle.std.proofs.Common.{Bool, List, [], ap, append_assoc, append-nil, arith, false, refl, subst, sym, true, ℕ, ◌++◌, ◌+◌, ◌-◌, ◌∙◌, ◌∷◌, ◌≡◌, Ok, Err, ◌≤◌, length}
-use Rattle.std.specs.Prelude.{nat_le, nat_lt, not}
-use Rattle.std.proofs.lemmas.Bool.{and_parts, leb-true, ltb-true}
+-- The lines of a stop, each in view of the state before it.
+use Rattle.std.proofs.Common.{◌≡◌, ◌∙◌, ◌≤◌, ◌++◌, ◌∷◌, ℕ, Bool, false, zero, suc, List, [], Err, ap, append-nil, arith, length, refl, sym}
+use Rattle.std.proofs.Math.Numerals.{sub-one}
+use Rattle.std.specs.List.{flat_map}
+use Rattle.std.specs.Prelude.{None, Some, get_or, not, slice_get}
 use Rattle.line_base.specs.declared.states.Side.{Side}
+use Rattle.line_world.specs.declared.moves.MoveNo.TheVariants as moves
+use Rattle.line_script.specs.declared.line.LaneLine.TheVariants as lane_lines
 use Rattle.line_script.specs.declared.line.ScriptLine.{ScriptLine}
 use Rattle.line_script.specs.declared.line.ScriptLine.TheVariants as lines
-use Rattle.line_script.specs.Ranges.{IsBetween, IsWithin}
-use Rattle.line_world.specs.declared.moves.MoveNo.TheVariants as moves
-use Rattle.line_report.specs.declared.happening.Happening.{Happening}
+use Rattle.line_report.specs.declared.happening.Happening.TheVariants as happenings
+use Rattle.line_report.specs.declared.happening.LaneHappening.{LaneHappening}
 use Rattle.line_report.specs.declared.happening.Reason.{Reason}
 use Rattle.line_report.specs.declared.happening.Reason.TheVariants as reasons
-use Rattle.line_step.specs.Requests.{request_of}
+use Rattle.node_core.specs.declared.input.No.TheVariants as nos
+use Rattle.line_step.specs.Parts.{where_may}
+use Rattle.line_step.specs.Reasons.{has_link, is_loose, may_cut, may_do, may_notice, may_stop, no_if}
 use Rattle.line_step.specs.Requests as requests
-use Rattle.line_step.specs.Lines.{LineSteps}
-use Rattle.line_step.specs.Parts.{ScriptLineSteps, count_behind, cut_where, entry_where, exit_where, where_may}
-use Rattle.line_step.specs.Reasons.{May, has_link, may_cut, may_do, no_if}
-use Rattle.line_step.specs.State.{LineState, most_machines}
-use Rattle.line_engine.specs.Each.{GoesOn, is_alone}
+use Rattle.line_step.specs.Shown.{ascending, ids_marked}
+use Rattle.line_step.specs.State.{LineState}
+use Rattle.line_step.specs.World.{link_at}
+use Rattle.line_lanes.specs.Lanes.{Lanes, empty_track, track}
+use Rattle.line_lanes.specs.Parts.{cut_where, notice_where}
+use Rattle.line_lanes.specs.Shown.{marked_on, marks_told, standings_on}
+use Rattle.line_lanes.specs.Steps.{Becomes, RequestDoes, told_once}
+use Rattle.line_engine.specs.Seats.{seat_from}
+use Rattle.line_engine.specs.Tracks.{AreKept, TellsDone, lanes_of, states_of, track_in}
+use Rattle.line_engine.specs.declared.track.Track.{Track}
+use Rattle.line_engine.proofs.OnLane.{track_is, unless_done, unless_not}
+use Rattle.line_engine.proofs.OnTwo.{own_on}
+use Rattle.line_engine.proofs.Seating.{same_untold}
+use Rattle.line_engine.proofs.Standings.{flat_same, seats_tell}
 
-alone_steps : (line : ScriptLine) (before after : LineState) (told : List Happening) → is_alone line ≡ true → after.lines ≡ before.lines + 1 → LineSteps (before.lines + 1) (request_of line) before after told → ScriptLineSteps line before after told
-alone_steps (lines.Stop machine) before after told alone counted steps = cc
-alone_steps _ before after told alone counted steps = record {
-  points = record { told = told; after = after } ∷ [];
-  plays = (record { steps = steps; counted = counted }, tt);
-  behind = refl;
-  told_is = sym (append-nil told);
+-- ---- what a stop tells itself
+
+abbrev nothing : ℕ → List LaneHappening
+nothing id = []
+
+untold : (ids : List ℕ) → flat_map nothing ids ≡ []
+untold [] = refl
+untold (id ∷ ids) = untold ids
+
+standings_same : (s : Lanes) → standings_on s s ≡ []
+standings_same s =
+    let ids : List ℕ = ascending (flat_map ids_marked s.tracks ++ flat_map ids_marked s.tracks) in
+    flat_same (λ (id : ℕ). marks_told id (marked_on s id) (marked_on s id)) nothing
+    (λ id. seats_tell id s.tracks s.tracks ∙ same_untold id (seat_from id 1 s.tracks)) ids
+    ∙ untold ids
+
+tells : (Does : Lanes → Lanes → List LaneHappening → Type 0) (tracks : List Track) (what old new : List LaneHappening) → Does (lanes_of tracks) (lanes_of tracks) what → new ≡ old ++ what → TellsDone Does tracks tracks old new
+tells Does tracks what old new does is = record {
+  done = what;
+  does = does;
+  now_is = is ∙ ap (λ (more : List LaneHappening). old ++ more) (sym (append-nil what) ∙ ap (λ (more : List LaneHappening). what ++ more) (sym (standings_same (lanes_of tracks))));
 }
 
-pub alone_as : (ends : Bool) (number : ℕ) (line : ScriptLine) (before after : LineState) (told : List Happening) → number ≡ before.lines + 1 → after.lines ≡ count_behind ends before.lines → LineSteps number (request_of line) before after told → ends ≡ true → is_alone line ≡ true → ScriptLineSteps line before after told
-alone_as ends number line before after told numbered counted steps ended alone =
-    alone_steps line before after told alone (counted ∙ ap (λ (b : Bool). count_behind b before.lines) ended) (subst (λ (n : ℕ). LineSteps n (request_of line) before after told) numbered steps)
+pub stop_refused : (number lane machine : ℕ) (first : Track) (others : List Track) (reason : Reason) (old new : List LaneHappening) → may_stop machine first.state ≡ Err reason
+    → new ≡ old ++ told_once (happenings.No reason) → TellsDone (RequestDoes number lane (requests.stops machine)) (first ∷ others) (first ∷ others) old new
+stop_refused number lane machine first others reason old new may is =
+    let s : Lanes = lanes_of (first ∷ others) in
+    tells (RequestDoes number lane (requests.stops machine)) (first ∷ others) (told_once (happenings.No reason)) old new
+    (unless_not (may_stop machine first.state) reason s (Becomes s (told_once (happenings.Stop machine)) s (told_once (happenings.No reason))) may) is
 
--- a part of a stop behind another
-step_of : {number : ℕ} {line : ScriptLine} {before after : LineState} {told now : List Happening} → number ≡ before.lines + 1 → (g : GoesOn number line before after told now) → LineSteps (before.lines + 1) (request_of line) before after g.more
-step_of {line = line} {before = before} {after = after} numbered g = subst (λ (n : ℕ). LineSteps n (request_of line) before after g.more) numbered g.steps
+pub stop_told : (number lane machine : ℕ) (first : Track) (others : List Track) (old new : List LaneHappening) → may_stop machine first.state ≡ may_do
+    → new ≡ old ++ told_once (happenings.Stop machine) → TellsDone (RequestDoes number lane (requests.stops machine)) (first ∷ others) (first ∷ others) old new
+stop_told number lane machine first others old new may is =
+    let s : Lanes = lanes_of (first ∷ others) in
+    tells (RequestDoes number lane (requests.stops machine)) (first ∷ others) (told_once (happenings.Stop machine)) old new
+    (unless_done (may_stop machine first.state) s s (told_once (happenings.Stop machine)) (Becomes s (told_once (happenings.Stop machine)) s (told_once (happenings.Stop machine))) may
+    (record { after_is = refl; told_is = refl })) is
 
-pub stop_steps : (number machine : ℕ) (s0 s1 s2 s3 s4 s5 : LineState) (t1 t2 t3 t4 t5 : List Happening)
-    → number ≡ s0.lines + 1 → LineSteps number (requests.stops machine) s0 s1 t1
-    → s1.lines ≡ s0.lines → s2.lines ≡ s1.lines → s3.lines ≡ s2.lines → s4.lines ≡ s3.lines → s5.lines ≡ s4.lines + 1
-    → GoesOn number (cut_where (machine - 1) s1) s1 s2 t1 t2 → GoesOn number (cut_where machine s2) s2 s3 t2 t3
-    → GoesOn number (entry_where machine s3) s3 s4 t3 t4 → GoesOn number (exit_where machine s4) s4 s5 t4 t5
-    → ScriptLineSteps (lines.Stop machine) s0 s5 t5
-stop_steps number machine s0 s1 s2 s3 s4 s5 t1 t2 t3 t4 t5 numbered first same1 same2 same3 same4 last two three four five =
-    let second : number ≡ s1.lines + 1 = numbered ∙ ap (λ (n : ℕ). n + 1) (sym same1) in
-    let third : number ≡ s2.lines + 1 = second ∙ ap (λ (n : ℕ). n + 1) (sym same2) in
-    let fourth : number ≡ s3.lines + 1 = third ∙ ap (λ (n : ℕ). n + 1) (sym same3) in
-    let fifth : number ≡ s4.lines + 1 = fourth ∙ ap (λ (n : ℕ). n + 1) (sym same4) in
-    record {
-      points = record { told = t1; after = s1 } ∷ record { told = two.more; after = s2 } ∷ record { told = three.more; after = s3 }
-          ∷ record { told = four.more; after = s4 } ∷ record { told = five.more; after = s5 } ∷ [];
-      plays = (
-        record { steps = subst (λ (n : ℕ). LineSteps n (requests.stops machine) s0 s1 t1) numbered first; counted = same1 },
-        (
-          record { steps = step_of second two; counted = same2 },
-          (
-            record { steps = step_of third three; counted = same3 },
-            (
-              record { steps = step_of fourth four; counted = same4 },
-              (record { steps = step_of fifth five; counted = last }, tt),
-            ),
-          ),
-        ),
-      );
-      behind = refl;
-      told_is = all_of t1 two.more three.more four.more five.more t2 t3 t4 t5 two.now_is three.now_is four.now_is five.now_is;
-    } where
-      all_of : (a b c d e u v w x : List Happening) → u ≡ a ++ b → v ≡ u ++ c → w ≡ v ++ d → x ≡ w ++ e → x ≡ a ++ (b ++ (c ++ (d ++ (e ++ []))))
-      all_of a b c d e u v w x one two three four = rw (four, three, two, one) (simp (append_assoc, append-nil))
+-- ---- on a lane that is there, and on one that isn't
 
--- ---- a cut that may be done is one of a gap that is there
+pub cut_there : (lane gap : ℕ) (tracks : List Track) (own : Track) → track_in lane tracks ≡ Some own → lane_lines.On lane (where_may (may_cut gap own.state) (lines.Cut gap)) ≡ cut_where lane gap (lanes_of tracks)
+cut_there lane gap tracks own there = ap (λ (s : LineState). lane_lines.On lane (where_may (may_cut gap s) (lines.Cut gap))) (sym (track_is lane tracks own there))
 
-linked_by : (here : Bool) (reason : Reason) (next : May) → no_if (not here) reason next ≡ may_do → here ≡ true
-linked_by true reason next is = refl
-linked_by false reason next is = cc
+pub notice_there : (lane machine : ℕ) (side : Side) (tracks : List Track) (own : Track) → track_in lane tracks ≡ Some own → lane_lines.On lane (where_may (may_notice machine side own.state) (lines.Notice machine side)) ≡ notice_where lane machine side (lanes_of tracks)
+notice_there lane machine side tracks own there = ap (λ (s : LineState). lane_lines.On lane (where_may (may_notice machine side s) (lines.Notice machine side))) (sym (track_is lane tracks own there))
 
-pub cut_within : (gap : ℕ) (s : LineState) (may : May) → may_cut gap s ≡ may → length s.machines ≤ most_machines → IsWithin (where_may may (lines.Cut gap))
-cut_within gap s (Err reason) is few = tt
-cut_within gap s (Ok _) is few =
-    let linked : has_link gap s ≡ true = linked_by (has_link gap s) (reasons.Move moves.NoGap) _ is in
-    let parts = and_parts (nat_le 1 gap) (nat_lt gap (length s.machines)) linked in
-    let least = leb-true 1 gap parts.0 in
-    let most = ltb-true gap (length s.machines) parts.1 in
-    record { least = least; most = omega (arith, most, few) }
+empty_behind : (place : ℕ) (tracks : List Track) (s : LineState) → slice_get tracks place ≡ None → get_or (states_of tracks) place s ≡ s
+empty_behind zero [] s none = refl
+empty_behind (suc place) [] s none = refl
+empty_behind zero (track ∷ tracks) s none = absurd (cc)
+empty_behind (suc place) (track ∷ tracks) s none = empty_behind place tracks s none
 
-pub notice_within : (machine : ℕ) (side : Side) (may : May) → IsBetween 1 64 machine → IsWithin (where_may may (lines.Notice machine side))
-notice_within machine side (Ok _) within = within
-notice_within machine side (Err reason) within = tt
+no_track : (lane : ℕ) (tracks : List Track) → 1 ≤ lane → track_in lane tracks ≡ None → track lane (lanes_of tracks) ≡ empty_track (lanes_of tracks)
+no_track zero tracks least none = absurd (omega (arith, least))
+no_track (suc place) tracks least none =
+    ap (λ (n : ℕ). get_or (states_of tracks) n (empty_track (lanes_of tracks))) (sub-one (suc place)) ∙ empty_behind place tracks (empty_track (lanes_of tracks)) none
+
+no_cut : (gap : ℕ) (s : Lanes) → where_may (may_cut gap (empty_track s)) (lines.Cut gap) ≡ lines.Blank
+no_cut gap s =
+    let none : has_link gap (empty_track s) ≡ false = grind arith in
+    ap (λ (b : Bool). where_may (no_if (not b) (reasons.Move moves.NoGap) (no_if (is_loose (link_at gap (empty_track s).world)) (reasons.Node nos.NotConnected) may_do)) (lines.Cut gap)) none
+
+no_notice : (machine : ℕ) (side : Side) (s : Lanes) → where_may (may_notice machine side (empty_track s)) (lines.Notice machine side) ≡ lines.Blank
+no_notice zero side s = refl
+no_notice (suc before) side s = refl
+
+pub cut_nowhere : (lane gap : ℕ) (tracks : List Track) → 1 ≤ lane → track_in lane tracks ≡ None → lane_lines.On lane lines.Blank ≡ cut_where lane gap (lanes_of tracks)
+cut_nowhere lane gap tracks least none =
+    ap (λ (line : ScriptLine). lane_lines.On lane line) (sym (no_cut gap (lanes_of tracks)))
+    ∙ ap (λ (s : LineState). lane_lines.On lane (where_may (may_cut gap s) (lines.Cut gap))) (sym (no_track lane tracks least none))
+
+pub notice_nowhere : (lane machine : ℕ) (side : Side) (tracks : List Track) → 1 ≤ lane → track_in lane tracks ≡ None → lane_lines.On lane lines.Blank ≡ notice_where lane machine side (lanes_of tracks)
+notice_nowhere lane machine side tracks least none =
+    ap (λ (line : ScriptLine). lane_lines.On lane line) (sym (no_notice machine side (lanes_of tracks)))
+    ∙ ap (λ (s : LineState). lane_lines.On lane (where_may (may_notice machine side s) (lines.Notice machine side))) (sym (no_track lane tracks least none))
+
+-- a track that is kept has no more machines than a line may
+pub machines_few : (lane : ℕ) (tracks : List Track) (own : Track) → AreKept tracks → track_in lane tracks ≡ Some own → length own.state.machines ≤ 64
+machines_few lane tracks own kept there = (own_on lane tracks own kept.each there).together.few

@@ -22,7 +22,7 @@ pub on_floor_together : (machine : ℕ) (s : LineState) (node : NodeState) → S
 on_floor_together machine s node there together = on_floor machine s node (sym there) together.floor
 
 -- a machine's own reasons are none where nothing stands against the line
-own_none : (own : Result (Unit {0}) No) (rest : May) → behind_own own rest ≡ may_do → own ≡ node.may_do
+pub own_none : (own : Result (Unit {0}) No) (rest : May) → behind_own own rest ≡ may_do → own ≡ node.may_do
 own_none (Ok _) rest h = refl
 own_none (Err why) rest h = absurd (cc)
 

@@ -1,13 +1,18 @@
 -- What a machine of the line may be given, which lines of a script give it something, and which
 -- move boards.
-use Rattle.std.specs.Prelude.{◌≡◌, ℕ, Bool, true, false, IsSomeAnd}
+use Rattle.std.specs.Prelude.{◌≡◌, ℕ, Bool, true, false, IsSomeAnd, List, Option, None, Some, is_some}
 use Rattle.node_core.specs.declared.input.Input.{Input}
+use Rattle.node_core.specs.declared.input.Input.TheVariants as inputs
 use Rattle.node_core.specs.May.{may_do, may_of}
+use Rattle.node_core.specs.Node.{NodeState}
+use Rattle.node_core.specs.Shifts.{board_given}
+use Rattle.board_record.specs.declared.record.Record.{Record}
+use Rattle.line_report.specs.declared.happening.Happening.{Happening}
 use Rattle.line_script.specs.declared.line.ScriptLine.{ScriptLine}
 use Rattle.line_script.specs.declared.line.ScriptLine.TheVariants as lines
-use Rattle.line_report.specs.declared.happening.Happening.{Happening}
-use Rattle.line_report.specs.declared.happening.Happening.TheVariants as happenings
 use Rattle.line_step.specs.State.{LineState, machine_in}
+use Rattle.line_step.specs.Steps.{MachineSteps, moment_of, unread_by}
+use Rattle.line_engine.specs.Stepped.{last_stepped}
 
 -- the machine is there, and nothing of its own stands against the input
 abbrev pub IsGiven : ℕ → Input → LineState → Type 0
@@ -30,11 +35,6 @@ is_given (lines.Supervise machine) = true
 is_given (lines.Ask machine question) = true
 is_given _ = false
 
--- what is told of one machine more, which is a bridge or none
-abbrev pub made_told : Bool → ℕ → ℕ → Happening
-made_told true number capacity = happenings.Bridge number capacity
-made_told false number capacity = happenings.Machine number capacity
-
 -- a line moves a board on the floor
 abbrev pub is_move : ScriptLine → Bool
 is_move (lines.Begin gap) = true
@@ -44,3 +44,44 @@ is_move (lines.Back gap) = true
 is_move (lines.HandIn gap) = true
 is_move (lines.Take gap) = true
 is_move _ = false
+
+-- a line is of one lane: it names one of its machines or gaps
+abbrev pub is_of_lane : ScriptLine → Bool
+is_of_lane lines.Blank = false
+is_of_lane lines.Show = false
+is_of_lane (lines.Machine capacity used) = false
+is_of_lane (lines.Bridge capacity used) = false
+is_of_lane (lines.Stop machine) = false
+is_of_lane _ = true
+
+-- what a line of one lane names, of which it is asked first whether it is there
+abbrev pub names_machine : ScriptLine → ℕ
+names_machine (lines.Spoil machine side) = machine
+names_machine (lines.Lie machine sensed) = machine
+names_machine (lines.Unseen machine side) = machine
+names_machine line = last_stepped line
+
+abbrev pub names_gap : ScriptLine → ℕ
+names_gap (lines.Cut gap) = gap
+names_gap (lines.Begin gap) = gap
+names_gap (lines.Left gap) = gap
+names_gap (lines.Enter gap) = gap
+names_gap (lines.Back gap) = gap
+names_gap (lines.HandIn gap) = gap
+names_gap (lines.Take gap) = gap
+names_gap line = 0
+
+-- a machine is there and a bridge
+abbrev pub is_bridge_at : Option NodeState → Bool
+is_bridge_at None = false
+is_bridge_at (Some node) = is_some node.bridge
+
+abbrev pub is_bridge_in : ℕ → LineState → Bool
+is_bridge_in machine s = is_bridge_at (machine_in machine s)
+
+-- what a machine did as it gave a board to another of its lanes, and the record that it had of it
+pub record GivesBoard (number machine id to : ℕ) (before after : LineState) (told : List Happening)
+    (board : Record) : Type 0 where
+  pub steps : MachineSteps number machine (inputs.Gives id to) before after told
+  pub is : board_given steps.node (unread_by machine before.world) (moment_of number) id
+      ≡ Some board

@@ -1,19 +1,22 @@
 -- WHAT A LINE KEEPS between two lines of its script, while it is not spent.
-use Rattle.std.specs.Prelude.{None, false, ◌≡◌}
-use Rattle.line_step.specs.State.{LineState, owned}
-use Rattle.line_step.specs.Together.{IsLineTogether}
-use Rattle.one_standing.specs.Facts.{HasCustodyFacts}
-use Rattle.one_standing.specs.Reached.{HasUniqueIds, IsReached}
-use Rattle.one_standing.specs.Standing.{HasOneStanding}
-use Rattle.line_engine.specs.Indexed.{Entries, IsIndexOf}
+use Rattle.std.specs.Prelude.{◌≡◌, ◌&&◌, ℕ, Bool, true, List, nat_le}
+use Rattle.line_lanes.specs.Along.{IsLaneReached}
+use Rattle.line_lanes.specs.Views.{summary_on}
+use Rattle.line_lanes.specs.Lanes.{Lanes}
+use Rattle.line_engine.specs.declared.track.Track.{Track}
+use Rattle.line_engine.specs.Tracks.{AreKept, lanes_of}
 
--- what stands together in it, an index that is its own, and a run that led to it; so no two boards
--- share an id; and while no line told what was not so, one standing and the custody facts
-pub record IsKept (entries : Entries) (s : LineState) : Type 0 where
-  pub unspent : s.spent ≡ false
-  pub together : IsLineTogether s
-  pub index : IsIndexOf entries (owned s)
-  pub reached : IsReached s
-  pub ids : HasUniqueIds s
-  pub standing : s.unvouched ≡ None → HasOneStanding s
-  pub custody : s.unvouched ≡ None → HasCustodyFacts s
+-- what lanes count together can be told
+abbrev pub most_counted : ℕ
+most_counted = 18446744073709551615
+
+abbrev pub is_counted : Lanes → Bool
+is_counted s =
+    nat_le (summary_on s).boards most_counted && nat_le (summary_on s).opened most_counted
+    && nat_le (summary_on s).settled most_counted
+
+-- what stands together in it, indexes that are its own, and a run that led to it
+pub record IsKept (tracks : List Track) : Type 0 where
+  pub kept : AreKept tracks
+  pub counted : is_counted (lanes_of tracks) ≡ true
+  pub reached : IsLaneReached (lanes_of tracks)

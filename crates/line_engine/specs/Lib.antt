@@ -6,3 +6,10 @@ pub mod Opens
 pub mod Blames
 pub mod Each
 pub mod Contents
+pub mod Sharing
+pub mod Seats
+pub mod Tracks
+pub mod Next
+pub mod AllMarks
+pub mod Summed
+pub mod Whole

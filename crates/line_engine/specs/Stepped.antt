@@ -4,9 +4,9 @@ use Rattle.std.specs.List.{flat_map}
 use Rattle.line_script.specs.declared.line.ScriptLine.{ScriptLine}
 use Rattle.line_script.specs.declared.line.ScriptLine.TheVariants as lines
 use Rattle.standings.specs.Marks.{Owned, marks_of}
-use Rattle.standings.specs.Told.{told_of}
-use Rattle.line_step.specs.Shown.{ascending, standing_told, with_id}
-use Rattle.line_report.specs.declared.happening.Happening.{Happening}
+use Rattle.standings.specs.declared.mark.Mark.{Mark}
+use Rattle.line_step.specs.Shown.{with_id}
+use Rattle.line_report.specs.declared.happening.LaneHappening.{LaneHappening}
 
 -- what the machines from one number to another have, of those that are there
 abbrev pub owned_between : ℕ → ℕ → List Owned → List Owned
@@ -48,10 +48,7 @@ with_ids [] sorted = sorted
 with_ids (id ∷ ids) sorted = with_ids ids (with_id id sorted)
 
 -- what is told of ids, whose marks were these and are those
-abbrev pub told_each : List ℕ → List Owned → List Owned → List Happening
-told_each ids before after =
-    flat_map (λ id. standing_told id (told_of (marks_of before id) (marks_of after id))) ids
-
--- the standings of some ids that changed, in ascending order of id
-abbrev pub changed_told : List ℕ → List Owned → List Owned → List Happening
-changed_told ids before after = told_each (ascending ids) before after
+abbrev pub told_each : (ℕ → List Mark → List Mark → List LaneHappening) → List ℕ → List Owned
+    → List Owned → List LaneHappening
+told_each tell ids before after =
+    flat_map (λ (id : ℕ). tell id (marks_of before id) (marks_of after id)) ids

@@ -4,36 +4,46 @@ ghost use Rattle.std.specs.Prelude.{◌≡◌, ◌≤◌, ◌++◌, IfOk, OnOk, 
 ghost use Rattle.standings.specs.Marks.{is_held};
 ghost use Rattle.line_engine.specs.Stepped.{with_ids};
 ghost use Rattle.line_step.specs.Named.{id_of_deed, ids_named, ids_of_act, ids_of_happening};
-ghost use Rattle.line_step.specs.Shown.{ascending, standing_told, with_id};
+ghost use Rattle.line_step.specs.Shown.{ascending, with_id};
 
 use board_record::BoardId;
 use line_base::Memory;
 use line_report::{Happened, Happening};
 use node_core::{Act, Deed};
-use standings::Told;
 use std::alloc::Global;
-
-/// Tells a board's standing, where it changed.
-pub fn tell_standing(id: BoardId, standing: Option<Told>, told: &mut Happened) -> Result<(), Memory>
-    ensures { OnOk result (told.new ≡ told.old ++ standing_told id standing) }
-{
-    match standing {
-        None => Ok(()),
-        Some(Told::With(machine)) => told.tell(Happening::With { machine, id }),
-        Some(Told::Between(gap)) => told.tell(Happening::Between { gap, id }),
-        Some(Told::Gone) => told.tell(Happening::Gone { id }),
-    }
-}
 
 /// The ids that acts name, in ascending order, each once. `Memory` where there is none for the
 /// list.
+#[tactic(auto, using(crate::proofs::Places::ids_ascend))]
 pub fn ids_named(alloc: Global, told: &[Happening]) -> Result<Vec<BoardId>, Memory>
     ensures { IfOk result (λ ids. ids.items ≡ ascending (ids_named told.now)) }
 {
     let mut ids = Vec::new(alloc);
+    add_all(told, &mut ids)?;
+    Ok(ids)
+}
+
+fn add_all(told: &[Happening], ids: &mut Vec<BoardId>) -> Result<(), Memory>
+    ensures { OnOk result (ids.new.items ≡ with_ids (ids_named told.now) ids.old.items) }
+{
     for happening in told {
-        add_named(happening, &mut ids)?;
+        add_named(happening, ids)?;
     }
+    Ok(())
+}
+
+/// Those that the acts of a shift name on either of its lanes.
+#[tactic(auto, using(crate::proofs::Places::ids_both))]
+pub fn ids_of_both(
+    alloc: Global,
+    given: &[Happening],
+    got: &[Happening],
+) -> Result<Vec<BoardId>, Memory>
+    ensures { IfOk result (λ ids. ids.items ≡ ascending (ids_named (given.now ++ got.now))) }
+{
+    let mut ids = Vec::new(alloc);
+    add_all(given, &mut ids)?;
+    add_all(got, &mut ids)?;
     Ok(ids)
 }
 
@@ -54,12 +64,12 @@ fn add_ids(act: &Act, ids: &mut Vec<BoardId>) -> Result<(), Memory>
         Act::Deed(deed) => add_id(named_by(*deed), ids),
         Act::Inserts(id) => add_id(*id, ids),
         Act::Removes(id) => add_id(*id, ids),
+        Act::Gives { id, .. } => add_id(*id, ids),
+        Act::Gets { id } => add_id(*id, ids),
         Act::Replaces(old, new) => {
             add_id(*old, ids)?;
             add_id(*new, ids)
         }
-        Act::Gives { id, .. } => add_id(*id, ids),
-        Act::Gets { id } => add_id(*id, ids),
         _ => Ok(()),
     }
 }

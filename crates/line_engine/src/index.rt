@@ -1,24 +1,19 @@
 //! Where the records of boards stand: an index from boards to their marks, which follows a line of
 //! machines.
 
-ghost use Rattle.std.specs.Prelude.{◌≡◌, ◌≤◌, ◌++◌, ℕ, List, [], OnOk, length, map, nat_eq, if◌then◌else◌};
-ghost use Rattle.standings.specs.Marks.{Owned};
-ghost use Rattle.standings.specs.Told.{told_of};
-ghost use Rattle.line_step.specs.Named.{ids_named};
-ghost use Rattle.line_step.specs.Shown.{standing_told};
+ghost use Rattle.std.specs.Prelude.{◌≡◌, ◌≤◌, ℕ, [], IfOk, OnOk, length, map, nat_eq, if◌then◌else◌};
 ghost use Rattle.line_step.specs.State.{owned_by};
-ghost use Rattle.line_engine.specs.Indexed.{Follows, IsIndexOf, entry_at, indexed, marks_listed, patched};
-ghost use Rattle.line_engine.specs.Stepped.{changed_told};
+ghost use Rattle.line_engine.specs.Indexed.{entry_at, indexed, marks_listed, patched};
+ghost use Rattle.line_engine.specs.Seats.{own_seat};
 
-use crate::changed::{ids_named, tell_standing};
 use crate::marks::{Marks, patched};
+use crate::seat::{Seat, own_seat};
 use crate::span::Span;
 use board_record::BoardId;
 use indexmap::IndexMap;
 use line_base::Memory;
-use line_report::Happened;
 use node_core::Node;
-use standings::{Mark, told_of};
+use standings::Mark;
 use std::alloc::Global;
 use std::marker::Model;
 
@@ -28,6 +23,13 @@ use std::marker::Model;
 pub struct Index {
     alloc: Global,
     map: IndexMap<BoardId, Marks>,
+}
+
+/// Where a board stood on a lane before a line, and where it stands now.
+#[derive(Clone, Copy)]
+pub struct Moved {
+    pub was: Seat,
+    pub now: Seat,
 }
 
 impl Model for Index {
@@ -60,50 +62,25 @@ impl Index {
         }
     }
 
-    /// Follows a line of which these machines may have stepped, and tells the standings that
-    /// changed, in ascending order of id. They are among those of the boards that its acts name.
-    /// `Memory` where there is none for the marks.
+    /// Follows a line on this lane, of which these machines may have stepped, with one board, and
+    /// answers where it stood on the lane and where it stands. `Memory` where there is none for the
+    /// marks.
+    #[inline(never)]
     pub fn follow(
         &mut self,
-        machines: &[Node],
-        span: Span,
-        told: &mut Happened,
-    ) -> Result<(), Memory>
-        requires early { span.first ≤ 64 }
-        requires few { length machines.now ≤ 64 }
-        // whatever line it was the index of
-        ensures told { (before : List Owned) → IsIndexOf self.old before
-            → Follows span.first span.last (ids_named told.old) before (map owned_by machines.now)
-            → OnOk result
-            (told.new ≡ told.old
-            ++ changed_told (ids_named told.old) before (map owned_by machines.now)) }
-        ensures index { (before : List Owned) → IsIndexOf self.old before
-            → Follows span.first span.last (ids_named told.old) before (map owned_by machines.now)
-            → OnOk result (IsIndexOf self.new (map owned_by machines.now)) }
-    {
-        let ids = ids_named(self.alloc, told.list())?;
-        for id in &ids {
-            self.follow_board(machines, span, *id, told)?;
-        }
-        Ok(())
-    }
-
-    #[inline(never)]
-    fn follow_board(
-        &mut self,
+        lane: u32,
         machines: &[Node],
         span: Span,
         id: BoardId,
-        told: &mut Happened,
-    ) -> Result<(), Memory>
+    ) -> Result<Moved, Memory>
         requires early { span.first ≤ 64 }
         requires few { length machines.now ≤ 64 }
-        ensures told { OnOk result
-            (told.new ≡ told.old
-            ++ standing_told id
-            (told_of (marks_listed self.old id)
-            (patched span.first span.last (map owned_by machines.now)
-            (marks_listed self.old id) id))) }
+        ensures was { IfOk result
+            (λ moved. moved.was ≡ own_seat lane (marks_listed self.old id)) }
+        ensures now { IfOk result
+            (λ moved. moved.now
+            ≡ own_seat lane (patched span.first span.last (map owned_by machines.now)
+            (marks_listed self.old id) id)) }
         ensures entries { OnOk result
             ((other : ℕ)
             → entry_at self.new other
@@ -111,9 +88,12 @@ impl Index {
             (patched span.first span.last (map owned_by machines.now)
             (marks_listed self.old id) id) else entry_at self.old other)) }
     {
-        let now = patched(self.alloc, self.marks(id), machines, span, id)?;
-        tell_standing(id, told_of(self.marks(id), now.list()), told)?;
-        self.set(id, now)
+        let before = self.marks(id);
+        let was = own_seat(lane, before);
+        let marks = patched(self.alloc, before, machines, span, id)?;
+        let now = own_seat(lane, marks.list());
+        self.set(id, marks)?;
+        Ok(Moved { was, now })
     }
 
     /// A board has these marks from now on.

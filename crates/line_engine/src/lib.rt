@@ -4,16 +4,25 @@
 //! Links, floor and acts are in `line_acts`.
 #![tactic(auto)]
 
+mod all_marks;
 mod changed;
 mod index;
 mod line;
 mod marks;
+mod playing;
 mod reasons;
+mod seat;
 mod show;
 mod span;
 mod state;
 mod stepping;
 mod steps;
+mod track;
+mod tracks;
 
+pub use all_marks::LaneMark;
 pub use line::Line;
-pub use line_report::{Happened, Happening, Reason, Summary, write_happening, write_summary};
+pub use line_report::{
+    Happening, LaneHappened, LaneHappening, Reason, Summary, write_all, write_summary,
+};
+pub use seat::LaneStanding;

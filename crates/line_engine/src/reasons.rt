@@ -1,18 +1,27 @@
 //! Why a line of the script does nothing: the first reason that holds, on the state before the
 //! line.
 
-ghost use Rattle.std.specs.Prelude.{◌≡◌, IfOk};
+ghost use Rattle.std.specs.Prelude.{◌≡◌, ◌≤◌, IfOk, length, true};
 ghost use Rattle.node_core.specs.declared.input.Input.TheVariants as inputs;
 ghost use Rattle.node_core.specs.May.{may_of};
-ghost use Rattle.line_step.specs.Reasons.{behind_own, has_link, has_neighbour, if_there, may_add, may_connect, may_cut, may_do, may_flow, may_give, may_lie, may_notice, may_remove, may_replace, may_sense, may_spoil, may_stop, may_unseen, with_word, word_kept};
+ghost use Rattle.handover_out.specs.State.{is_id};
+ghost use Rattle.line_lanes.specs.Reasons.{is_named};
+ghost use Rattle.line_script.specs.Ranges.{IsBetween, IsWithin};
+ghost use Rattle.line_script.specs.declared.line.ScriptLine.TheVariants as lines;
+ghost use Rattle.line_step.specs.Parts.{where_may};
+ghost use Rattle.line_engine.specs.Given.{is_bridge_in, is_of_lane};
+ghost use Rattle.line_step.specs.Requests.{request_of};
+ghost use Rattle.line_step.specs.Reasons.{behind_own, has_link, has_neighbour, if_there, may_add, may_connect, may_cut, may_do, may_flow, may_give, may_give_away, may_lie, may_notice, may_remove, may_replace, may_sense, may_spoil, may_stop, may_take_in, may_unseen, with_word, word_kept};
 ghost use Rattle.line_step.specs.State.{machine_in};
 ghost use Rattle.line_step.specs.Together.{IsLineTogether};
 ghost use Rattle.supervisory_core.specs.Orders.{answer_to};
 
+use crate::span::{named_gap, named_machine};
 use crate::state::State;
 use board_record::BoardId;
 use line_base::{Memory, Side, Text};
 use line_report::Reason;
+use line_script::ScriptLine;
 use line_world::MoveNo;
 use node_core::{Input, No, Node};
 use std::alloc::Global;
@@ -77,6 +86,16 @@ fn node_may_connect(node: &Node) -> Result<(), No>
     ensures { result ≡ may_of node.now inputs.Connect }
 {
     node.may(&Input::Connect)
+}
+
+/// Whether a board was offered last.
+fn was_offered(node: &Node, id: BoardId) -> bool
+    ensures { result ≡ is_id node.now.lane.body.last_offer id }
+{
+    match node.last_offer() {
+        Some(offered) => offered == id,
+        None => false,
+    }
 }
 
 impl State {
@@ -295,6 +314,75 @@ impl State {
         Ok(())
     }
 
+    /// What a line of one lane names is there: `NoSuchMachine`, `NoGap`.
+    pub(crate) fn may_name(&self, line: &ScriptLine) -> Result<(), Reason>
+        requires own { is_of_lane line.now ≡ true }
+        requires within { IsWithin line.now }
+        ensures { result ≡ is_named (request_of line.now) self.now }
+    {
+        let gap = named_gap(line);
+        if gap != 0 && !self.has_link(gap) {
+            return Err(Reason::Move(MoveNo::NoGap));
+        }
+        if self.machines.len() < named_machine(line) as usize {
+            return Err(Reason::NoSuchMachine);
+        }
+        Ok(())
+    }
+
+    /// `NoSuchMachine`.
+    pub(crate) fn may_find(&self, machine: u32) -> Result<(), Reason>
+        ensures { result ≡ if_there (machine_in machine self.now) (λ node. may_do) }
+    {
+        match self.machine(machine) {
+            Some(_node) => Ok(()),
+            None => Err(Reason::NoSuchMachine),
+        }
+    }
+
+    /// Whether a machine is there and a bridge.
+    pub(crate) fn is_bridge(&self, machine: u32) -> bool
+        ensures { result ≡ is_bridge_in machine self.now }
+    {
+        match self.machine(machine) {
+            Some(node) => node.is_bridge(),
+            None => false,
+        }
+    }
+
+    /// A board goes to another lane: `NoSuchMachine`, `Bridge`, `NotKept`, `NotHere`, `WasOffered`.
+    pub(crate) fn may_give_away(&self, machine: u32, id: BoardId) -> Result<(), Reason>
+        requires { IsLineTogether self.now }
+        ensures { result ≡ may_give_away machine id self.now }
+    {
+        let Some(node) = self.machine(machine) else {
+            return Err(Reason::NoSuchMachine);
+        };
+        if node.is_bridge() {
+            return Err(Reason::Node(No::Bridge));
+        }
+        if let Err(no) = node_may_remove(node, id) {
+            return Err(Reason::Node(no));
+        }
+        if !self.world.is_here(machine, id) {
+            return Err(Reason::NotHere);
+        }
+        if was_offered(node, id) {
+            return Err(Reason::Node(No::WasOffered));
+        }
+        Ok(())
+    }
+
+    /// A board comes from another lane: `NoSuchMachine`, `IntakeOpen`, `Full`.
+    pub(crate) fn may_take_in(&self, machine: u32) -> Result<(), Reason>
+        ensures { result ≡ may_take_in machine self.now }
+    {
+        match self.machine(machine) {
+            None => Err(Reason::NoSuchMachine),
+            Some(node) => own(node.may_get()),
+        }
+    }
+
     /// `NoSuchMachine`, `NoNeighbour`.
     pub(crate) fn may_lie(&self, machine: u32, side: Side) -> Result<(), Reason>
         ensures { result ≡ may_lie machine side self.now }
@@ -306,5 +394,27 @@ impl State {
             return Err(Reason::NoNeighbour);
         }
         Ok(())
+    }
+    /// A cut of this gap, where no reason stands against it.
+    pub(crate) fn cut_where(&self, gap: u32) -> ScriptLine
+        ensures line { result ≡ where_may (may_cut gap self.now) (lines.Cut gap) }
+        ensures within { length self.now.machines ≤ 64 → IsWithin result }
+    {
+        match self.may_cut(gap) {
+            Ok(()) => ScriptLine::Cut { gap },
+            Err(_) => ScriptLine::Blank,
+        }
+    }
+
+    /// A notice of this side, where no reason stands against it.
+    pub(crate) fn notice_where(&self, machine: u32, side: Side) -> ScriptLine
+        requires { IsBetween 1 64 machine }
+        ensures line { result ≡ where_may (may_notice machine side self.now) (lines.Notice machine side) }
+        ensures within { IsWithin result }
+    {
+        match self.may_notice(machine, side) {
+            Ok(()) => ScriptLine::Notice { machine, side },
+            Err(_) => ScriptLine::Blank,
+        }
     }
 }

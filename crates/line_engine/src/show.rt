@@ -1,28 +1,36 @@
 //! What the report shows of all machines.
 
-ghost use Rattle.std.specs.Prelude.{◌≡◌, ◌≤◌, ◌++◌, None, OnOk, drop, length};
+ghost use Rattle.std.specs.Prelude.{◌≡◌, ◌<◌, ◌+◌, ◌++◌, None, OnOk, drop};
 ghost use Rattle.std.specs.Option.{option_copied};
 ghost use Rattle.node_core.specs.Own.{id_of};
-ghost use Rattle.line_step.specs.Shown.{between_shown, kept_shown, shown_from, taken_below};
+ghost use Rattle.line_lanes.specs.Shown.{front_shown};
+ghost use Rattle.line_report.specs.Lanes.{told_on};
+ghost use Rattle.line_step.specs.Shown.{between_shown, kept_shown, taken_below};
 
 use board_record::{BoardId, Record};
 use line_base::Memory;
-use line_report::{Happened, Happening};
+use line_report::{Happening, LaneHappened};
 use node_core::Node;
 
-/// What every machine keeps, and the boards in handovers.
-pub fn show_all(machines: &[Node], told: &mut Happened) -> Result<(), Memory>
-    requires { length machines.now ≤ 64 }
-    ensures { OnOk result (told.new ≡ told.old ++ shown_from 1 machines.now) }
+/// What the machine behind so many others keeps on a lane, and the boards in handovers to the next
+/// one; nothing where there is no such machine.
+pub fn show_front(
+    lane: u32,
+    machines: &[Node],
+    before: u32,
+    told: &mut LaneHappened,
+) -> Result<(), Memory>
+    requires { before < 64 }
+    ensures { OnOk result
+        (told.new ≡ told.old ++ front_shown lane (before + 1) (drop before machines.now)) }
 {
-    let mut number = 0u32;
-    for node in machines {
-        number += 1;
-        show_kept(number, node.kept(), told)?;
-        let above = id_of(node.outlet().holds());
-        show_between(number, above, taken_behind(machines, number), told)?;
-    }
-    Ok(())
+    let Some(node) = machines.get(before as usize) else {
+        return Ok(());
+    };
+    let number = before + 1;
+    show_kept(lane, number, node.kept(), told)?;
+    let above = id_of(node.outlet().holds());
+    show_between(lane, number, above, taken_behind(machines, number), told)
 }
 
 /// The board that the intake behind so many machines holds.
@@ -35,15 +43,21 @@ fn taken_behind(machines: &[Node], number: u32) -> Option<BoardId>
     }
 }
 
-fn show_kept(machine: u32, kept: &[Record], told: &mut Happened) -> Result<(), Memory>
-    ensures { OnOk result (told.new ≡ told.old ++ kept_shown machine kept.now) }
+fn show_kept(
+    lane: u32,
+    machine: u32,
+    kept: &[Record],
+    told: &mut LaneHappened,
+) -> Result<(), Memory>
+    ensures { OnOk result (told.new ≡ told.old ++ told_on lane (kept_shown machine kept.now)) }
 {
     for board in kept {
-        told.tell(Happening::Shown {
+        let happening = Happening::Shown {
             machine,
             id: board.id,
             quality: board.quality,
-        })?;
+        };
+        told.tell(lane, happening)?;
     }
     Ok(())
 }
@@ -51,35 +65,41 @@ fn show_kept(machine: u32, kept: &[Record], told: &mut Happened) -> Result<(), M
 /// The board that the upper outlet holds, and the one that the lower intake holds where it is
 /// another.
 fn show_between(
+    lane: u32,
     gap: u32,
     above: Option<BoardId>,
     below: Option<BoardId>,
-    told: &mut Happened,
+    told: &mut LaneHappened,
 ) -> Result<(), Memory>
-    ensures { OnOk result (told.new ≡ told.old ++ between_shown gap above below) }
+    ensures { OnOk result (told.new ≡ told.old ++ told_on lane (between_shown gap above below)) }
 {
     let Some(first) = above else {
-        return show_held(gap, below, told);
+        return show_held(lane, gap, below, told);
     };
-    told.tell(Happening::ShownBetween { gap, id: first })?;
+    told.tell(lane, Happening::ShownBetween { gap, id: first })?;
     match below {
         None => Ok(()),
         Some(second) => {
             if second == first {
                 return Ok(());
             }
-            told.tell(Happening::ShownBetween { gap, id: second })
+            told.tell(lane, Happening::ShownBetween { gap, id: second })
         }
     }
 }
 
 /// The board of one half, where it holds one.
-fn show_held(gap: u32, held: Option<BoardId>, told: &mut Happened) -> Result<(), Memory>
-    ensures { OnOk result (told.new ≡ told.old ++ between_shown gap None held) }
+fn show_held(
+    lane: u32,
+    gap: u32,
+    held: Option<BoardId>,
+    told: &mut LaneHappened,
+) -> Result<(), Memory>
+    ensures { OnOk result (told.new ≡ told.old ++ told_on lane (between_shown gap None held)) }
 {
     match held {
         None => Ok(()),
-        Some(id) => told.tell(Happening::ShownBetween { gap, id }),
+        Some(id) => told.tell(lane, Happening::ShownBetween { gap, id }),
     }
 }
 

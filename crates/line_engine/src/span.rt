@@ -3,6 +3,7 @@
 ghost use Rattle.std.specs.Prelude.{◌≡◌, ◌≤◌, drop, length, map, take};
 ghost use Rattle.line_script.specs.Ranges.{IsWithin};
 ghost use Rattle.line_step.specs.State.{owned_by};
+ghost use Rattle.line_engine.specs.Given.{names_gap, names_machine};
 ghost use Rattle.line_engine.specs.Stepped.{first_stepped, last_stepped, owned_between};
 
 use line_script::ScriptLine;
@@ -17,7 +18,7 @@ pub struct Span {
 
 impl Span {
     /// One machine.
-    fn one(machine: u32) -> Span
+    pub fn one(machine: u32) -> Span
         ensures first { result.first ≡ machine }
         ensures last { result.last ≡ machine }
     {
@@ -60,6 +61,35 @@ pub fn stepped(line: &ScriptLine) -> Span
         ScriptLine::Ask { machine, .. } => Span::one(*machine),
         ScriptLine::Answer { machine, .. } => Span::one(*machine),
         _ => Span::one(0),
+    }
+}
+
+/// The machine that a line names; 0 where it names none.
+pub fn named_machine(line: &ScriptLine) -> u32
+    requires { IsWithin line.now }
+    ensures { result ≡ names_machine line.now }
+{
+    match line {
+        ScriptLine::Spoil { machine, .. } => *machine,
+        ScriptLine::Lie { machine, .. } => *machine,
+        ScriptLine::Unseen { machine, .. } => *machine,
+        _ => stepped(line).last,
+    }
+}
+
+/// The gap that a line names; 0 where it names none.
+pub fn named_gap(line: &ScriptLine) -> u32
+    ensures { result ≡ names_gap line.now }
+{
+    match line {
+        ScriptLine::Cut { gap } => *gap,
+        ScriptLine::Begin { gap } => *gap,
+        ScriptLine::Left { gap } => *gap,
+        ScriptLine::Enter { gap } => *gap,
+        ScriptLine::Back { gap } => *gap,
+        ScriptLine::HandIn { gap } => *gap,
+        ScriptLine::Take { gap } => *gap,
+        _ => 0,
     }
 }
 

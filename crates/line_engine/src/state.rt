@@ -1,16 +1,17 @@
-ghost use Rattle.std.specs.Prelude.{◌≡◌, ◌≤◌, ◌+◌, false, length};
+ghost use Rattle.std.specs.Prelude.{◌≡◌, ◌≤◌, false, length, option_map};
+ghost use Rattle.node_core.specs.Shared.{shared_of};
+ghost use Rattle.line_engine.specs.Sharing.{AreNumbered, sharing};
 ghost use Rattle.line_link.specs.Flow.{coming};
 ghost use Rattle.line_link.specs.Link.{flow_to};
 ghost use Rattle.line_step.specs.World.{end_of, link_at, link_of};
 ghost use Rattle.std.specs.Option.{option_copied};
-ghost use Rattle.line_step.specs.Parts.{count_behind};
 ghost use Rattle.line_step.specs.State.{machine_in, no_line};
 ghost use Rattle.line_step.specs.Views.{summary_of};
 
 use line_acts::World;
 use line_base::{Memory, Side};
 use line_report::Summary;
-use node_core::Node;
+use node_core::{Node, Shared};
 use std::alloc::Global;
 use std::marker::Model;
 
@@ -79,14 +80,67 @@ impl State {
         self.machines.as_slice()
     }
 
-    /// The line of the script that has this number was done, or a part of it with more behind it.
-    pub fn count(&mut self, number: u64, ends: bool)
-        requires { number ≡ self.old.lines + 1 }
-        ensures { self.new ≡ record self.old { lines = count_behind ends self.old.lines } }
+    /// So many lines were done.
+    pub fn set_lines(&mut self, lines: u64)
+        ensures { self.new ≡ record self.old { lines = lines } }
     {
-        if ends {
-            self.lines = number;
+        self.lines = lines;
+    }
+
+    /// How many lines were done.
+    pub fn lines(&self) -> u64
+        ensures { result ≡ self.now.lines }
+    {
+        self.lines
+    }
+
+    /// The first line that told what was not so, or moved a board unseen.
+    pub fn unvouched(&self) -> Option<u64>
+        ensures { result ≡ self.now.unvouched }
+    {
+        self.unvouched
+    }
+
+    /// A line without a machine, of which so much was done.
+    pub fn empty(alloc: Global, lines: u64, unvouched: Option<u64>) -> State
+        ensures { result ≡ record no_line { lines = lines; unvouched = unvouched } }
+    {
+        State {
+            alloc,
+            machines: Vec::new(alloc),
+            world: World::new(alloc),
+            lines,
+            unvouched,
         }
+    }
+
+    /// Nobody vouches for it from this line on, if there is one.
+    pub fn set_unvouched(&mut self, unvouched: Option<u64>)
+        ensures { self.new ≡ record self.old { unvouched = unvouched } }
+    {
+        self.unvouched = unvouched;
+    }
+
+    /// What the lanes of a machine share, as the machine has it here; `None` where there is no such
+    /// machine.
+    pub fn shared(&self, machine: u32) -> Option<Shared>
+        requires { AreNumbered self.now }
+        ensures { result ≡ option_map shared_of (machine_in machine self.now) }
+    {
+        match self.machine(machine) {
+            None => None,
+            Some(node) => Some(node.shared(machine)),
+        }
+    }
+
+    /// A machine follows another of its lanes in what they share.
+    pub fn share(&mut self, machine: u32, with: &Shared)
+        ensures { self.new ≡ sharing machine with.now self.old }
+    {
+        if machine == 0 || self.machines.len() < machine as usize {
+            return;
+        }
+        self.machines[machine as usize - 1].share(with);
     }
 
     /// How many bytes are on their way to a side.

@@ -2,18 +2,19 @@
 
 ghost use Rattle.std.specs.Prelude.{◌≡◌, ◌-◌, ◌≤◌, IfOk, OnOk, length};
 ghost use Rattle.line_step.specs.Lines.{Connects, Flows, met};
-ghost use Rattle.line_step.specs.Reasons.{may_connect, may_do};
+ghost use Rattle.line_step.specs.Reasons.{may_connect, may_do, may_give_away, may_take_in};
 ghost use Rattle.line_step.specs.Steps.{MachineSteps, TellsStep, is_second, moment_of};
 ghost use Rattle.line_step.specs.Together.{IsLineTogether};
 ghost use Rattle.node_core.specs.declared.input.Input.TheVariants as inputs;
-ghost use Rattle.line_engine.specs.Given.{IsGiven};
+ghost use Rattle.line_engine.specs.Given.{GivesBoard, IsGiven};
 
 use crate::state::State;
+use board_record::BoardId;
 use line_acts::{Teller, do_acts};
 use line_base::{Memory, Moment, Side};
 use line_link::Connected;
 use line_report::Happened;
-use node_core::Input;
+use node_core::{Input, Passage};
 
 /// Whether an input is a second connection.
 fn is_second(input: &Input<'_>) -> bool
@@ -38,6 +39,13 @@ fn met(connected: Connected) -> Input<'static>
         Connected::Accepted => Input::Accepted,
         Connected::Second => Input::Second,
     }
+}
+
+/// What a machine did as it gave a board, and the board's record.
+#[derive(Drop)]
+pub struct Gave {
+    pub told: Happened,
+    pub board: Passage,
 }
 
 impl State {
@@ -125,6 +133,60 @@ impl State {
         let node = &mut self.machines[machine as usize - 1];
         let acts = node.step(sensed.list(), Input::Bytes(side, piece), moment)?;
         self.world.arrive(machine, side, count);
+        let mut told = Happened::new(self.alloc);
+        do_acts(&teller, acts, &mut self.world, &mut told)?;
+        Ok(told)
+    }
+    /// A machine gives a board to another of its lanes.
+    pub(crate) fn give_away(
+        &mut self,
+        number: u64,
+        machine: u32,
+        id: BoardId,
+        to: u32,
+    ) -> Result<Gave, Memory>
+        requires few { number ≤ 1000000 }
+        requires together { IsLineTogether self.old }
+        requires may { may_give_away machine id self.old ≡ may_do }
+        ensures { IfOk result
+            (λ gave. GivesBoard number machine id to self.old self.new gave.told gave.board) }
+    {
+        let teller = Teller {
+            machine,
+            second: false,
+        };
+        let sensed = self.world.read_all(machine)?;
+        let moment = moment_of(number);
+        let node = &mut self.machines[machine as usize - 1];
+        let given = node.give(sensed.list(), id, to, moment)?;
+        let mut told = Happened::new(self.alloc);
+        do_acts(&teller, given.acts, &mut self.world, &mut told)?;
+        Ok(Gave {
+            told,
+            board: given.board,
+        })
+    }
+
+    /// A machine gets a board from another of its lanes.
+    pub(crate) fn take_in(
+        &mut self,
+        number: u64,
+        machine: u32,
+        board: Passage,
+    ) -> Result<Happened, Memory>
+        requires few { number ≤ 1000000 }
+        requires together { IsLineTogether self.old }
+        requires may { may_take_in machine self.old ≡ may_do }
+        ensures { IfOk result (MachineSteps number machine (inputs.Gets board) self.old self.new) }
+    {
+        let teller = Teller {
+            machine,
+            second: false,
+        };
+        let sensed = self.world.read_all(machine)?;
+        let moment = moment_of(number);
+        let node = &mut self.machines[machine as usize - 1];
+        let acts = node.get(sensed.list(), board, moment)?;
         let mut told = Happened::new(self.alloc);
         do_acts(&teller, acts, &mut self.world, &mut told)?;
         Ok(told)

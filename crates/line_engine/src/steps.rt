@@ -4,17 +4,14 @@ ghost use Rattle.std.specs.Prelude.{◌≡◌, ◌+◌, ◌-◌, ◌≤◌, ◌<
 ghost use Rattle.node_core.specs.Node.{new_node};
 ghost use Rattle.node_core.specs.declared.input.Input.TheVariants as inputs;
 ghost use Rattle.line_report.specs.declared.happening.Happening.TheVariants as happenings;
-ghost use Rattle.line_script.specs.Ranges.{IsWithin};
 ghost use Rattle.line_step.specs.Lines.{Becomes, Connects, Flows, LineDoes, Moves, Unless, cut_in, first_of, lied, spoil_told, spoiled, unseen, unvouched_told};
-ghost use Rattle.line_step.specs.Reasons.{may_add, may_answer, may_connect, may_cut, may_do, may_flow, may_give, may_lie, may_notice, may_remove, may_replace, may_sense, may_spoil, may_stop, may_unseen};
+ghost use Rattle.line_step.specs.Reasons.{may_answer, may_connect, may_cut, may_do, may_flow, may_give, may_lie, may_notice, may_remove, may_replace, may_sense, may_spoil, may_unseen};
 ghost use Rattle.line_step.specs.Requests.{request_of};
-ghost use Rattle.line_step.specs.Shown.{shown};
 ghost use Rattle.line_step.specs.State.{one_more, profile_of};
 ghost use Rattle.line_step.specs.Steps.{MachineSteps};
 ghost use Rattle.line_step.specs.Together.{IsLineTogether};
-ghost use Rattle.line_engine.specs.Given.{IsGiven, is_given, is_move, made_told};
+ghost use Rattle.line_engine.specs.Given.{IsGiven, is_given, is_move, is_of_lane};
 
-use crate::show::show_all;
 use crate::state::State;
 use board_record::{BoardId, Sensed};
 use hermes_vertical::Question;
@@ -28,17 +25,15 @@ use std::alloc::Global;
 use std::io::Write;
 
 impl State {
-    /// Does a line of the script; the standings that it changed are told elsewhere.
+    /// Does a line of the script that is of one lane; the standings that it changed are told
+    /// elsewhere.
     pub(crate) fn do_line(&mut self, number: u64, line: &ScriptLine) -> Result<Happened, Memory>
         requires few { number ≤ 1000000 }
-        requires within { IsWithin line.now }
+        requires own { is_of_lane line.now ≡ true }
         requires together { IsLineTogether self.old }
         ensures { IfOk result (LineDoes number (request_of line.now) self.old self.new) }
     {
         match line {
-            ScriptLine::Blank => Ok(Happened::new(self.alloc)),
-            ScriptLine::Machine { capacity, used } => self.add_machine(false, *capacity, *used),
-            ScriptLine::Bridge { capacity, used } => self.add_machine(true, *capacity, *used),
             ScriptLine::Remove { machine, id } => self.remove(number, *machine, *id),
             ScriptLine::Replace { machine, id } => self.replace(number, *machine, *id),
             ScriptLine::Connect { machine } => self.connect(number, *machine),
@@ -49,12 +44,10 @@ impl State {
             } => self.flow(number, *machine, *side, *bytes),
             ScriptLine::Notice { machine, side } => self.notice(number, *machine, *side),
             ScriptLine::Cut { gap } => self.cut(*gap),
-            ScriptLine::Stop { machine } => self.stop(*machine),
             ScriptLine::Spoil { machine, side } => self.spoil(*machine, *side),
             ScriptLine::Sense { machine } => self.sense(number, *machine),
             ScriptLine::Lie { machine, sensed } => self.lie(number, *machine, *sensed),
             ScriptLine::Unseen { machine, side } => self.unseen(number, *machine, *side),
-            ScriptLine::Show => self.show(),
             ScriptLine::Answer {
                 machine,
                 query,
@@ -133,24 +126,31 @@ impl State {
 
     // ---- machines
 
-    /// One machine more, which is a bridge or none.
-    fn add_machine(&mut self, is_bridge: bool, capacity: u32, used: u64) -> Result<Happened, Memory>
+    /// One machine more, which is a bridge or none, on this lane.
+    pub(crate) fn add_machine(
+        &mut self,
+        lane: u32,
+        is_bridge: bool,
+        capacity: u32,
+        used: u64,
+    ) -> Result<(), Memory>
         requires least { 1 ≤ capacity }
         requires most { capacity ≤ 1024 }
         requires used { used < 2 ^ 48 }
+        requires few { length self.old.machines < 64 }
         requires together { IsLineTogether self.old }
-        ensures { IfOk result
-            (λ told. Unless (may_add self.old) self.old self.new told
-            (Becomes (one_more 1 is_bridge capacity used self.old)
-            (made_told is_bridge (length self.old.machines + 1) capacity ∷ []) self.new told)) }
+        ensures { OnOk result (self.new ≡ one_more lane is_bridge capacity used self.old) }
     {
-        if let Err(reason) = self.may_add() {
-            return self.refuse(reason);
-        }
         let number = self.machines.len() as u32 + 1;
         self.world.add_machine()?;
-        add_node(&mut self.machines, is_bridge, number, capacity, used)?;
-        self.only(made(is_bridge, number, capacity))
+        let profile = Profile {
+            lane,
+            is_bridge,
+            number,
+            capacity,
+            used,
+        };
+        add_node(&mut self.machines, &profile)
     }
 
     /// A machine is given an input, unless a reason stands against it.
@@ -413,18 +413,6 @@ impl State {
         self.only(Happening::Cut { gap })
     }
 
-    /// What a stop tells itself: what it does are lines of their own.
-    fn stop(&mut self, machine: u32) -> Result<Happened, Memory>
-        ensures { IfOk result
-            (λ told. Unless (may_stop machine self.old) self.old self.new told
-            (Becomes self.old (happenings.Stop machine ∷ []) self.new told)) }
-    {
-        if let Err(reason) = self.may_stop(machine) {
-            return self.refuse(reason);
-        }
-        self.only(Happening::Stop { machine })
-    }
-
     fn spoil(&mut self, machine: u32, side: Side) -> Result<Happened, Memory>
         ensures { IfOk result
             (λ told. Unless (may_spoil machine side self.old) self.old self.new told
@@ -499,15 +487,6 @@ impl State {
             }
         }
     }
-
-    fn show(&self) -> Result<Happened, Memory>
-        requires { IsLineTogether self.now }
-        ensures { IfOk result (λ told. told ≡ shown self.now) }
-    {
-        let mut told = Happened::new(self.alloc);
-        show_all(self.machines.as_slice(), &mut told)?;
-        Ok(told)
-    }
 }
 
 fn copy_of(alloc: Global, barcode: &Option<Text>) -> Result<Option<Text>, Memory>
@@ -519,62 +498,57 @@ fn copy_of(alloc: Global, barcode: &Option<Text>) -> Result<Option<Text>, Memory
     }
 }
 
-/// A machine, or a bridge, was added.
-fn made(is_bridge: bool, number: u32, capacity: u32) -> Happening
-    ensures { result ≡ made_told is_bridge number capacity }
-{
-    if is_bridge {
-        return Happening::Bridge { number, capacity };
-    }
-    Happening::Machine { number, capacity }
-}
-
-/// One machine more. `Memory` where there is no room for it.
-fn add_node(
-    machines: &mut Vec<Node>,
+/// What a machine of the line is made from.
+#[derive(Clone, Copy)]
+struct Profile {
+    lane: u32,
     is_bridge: bool,
     number: u32,
     capacity: u32,
     used: u64,
-) -> Result<(), Memory>
-    requires least { 1 ≤ capacity }
-    requires most { capacity ≤ 1024 }
-    requires used { used < 2 ^ 48 }
+}
+
+/// One machine more. `Memory` where there is no room for it.
+fn add_node(machines: &mut Vec<Node>, profile: &Profile) -> Result<(), Memory>
+    requires least { 1 ≤ profile.now.capacity }
+    requires most { profile.now.capacity ≤ 1024 }
+    requires used { profile.now.used < 2 ^ 48 }
     ensures { OnOk result
         (machines.new.items ≡ machines.old.items
-        ++ new_node (profile_of 1 is_bridge number capacity used) ∷ []) }
+        ++ new_node
+        (profile_of profile.now.lane profile.now.is_bridge profile.now.number profile.now.capacity
+        profile.now.used) ∷ []) }
 {
-    let node = new_node(*machines.allocator(), is_bridge, number, capacity, used)?;
+    let node = new_node(*machines.allocator(), profile)?;
     machines.push(node)?;
     Ok(())
 }
 
-/// A machine of the line: its id text is `M` and its number.
+/// A machine of the line: its id text is `M` and its number, and its LaneId that of the lane.
 #[tactic(auto, using(crate::proofs::Naming::name_is_plain))]
-fn new_node(
-    alloc: Global,
-    is_bridge: bool,
-    number: u32,
-    capacity: u32,
-    used: u64,
-) -> Result<Node, Memory>
-    requires least { 1 ≤ capacity }
-    requires most { capacity ≤ 1024 }
-    requires used { used < 2 ^ 48 }
-    ensures { IfOk result (λ node. node ≡ new_node (profile_of 1 is_bridge number capacity used)) }
+fn new_node(alloc: Global, profile: &Profile) -> Result<Node, Memory>
+    requires least { 1 ≤ profile.now.capacity }
+    requires most { profile.now.capacity ≤ 1024 }
+    requires used { profile.now.used < 2 ^ 48 }
+    ensures { IfOk result
+        (λ node. node
+        ≡ new_node
+        (profile_of profile.now.lane profile.now.is_bridge profile.now.number profile.now.capacity
+        profile.now.used)) }
 {
     let mut name = Vec::new(alloc);
+    let number = profile.number;
     match write!(name, "M{number}") {
         Ok(()) => {}
         Err(_) => return Err(Memory),
     }
-    let profile = NodeProfile {
+    let made = NodeProfile {
         number,
         machine: Text::plain(alloc, name.as_slice())?,
-        lane: 1,
-        capacity,
-        used,
-        bridge: is_bridge,
+        lane: profile.lane,
+        capacity: profile.capacity,
+        used: profile.used,
+        bridge: profile.is_bridge,
     };
-    Node::new(alloc, profile)
+    Node::new(alloc, made)
 }

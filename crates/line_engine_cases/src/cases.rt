@@ -5,7 +5,7 @@ ghost use Rattle.std.specs.Prelude.{◌≡◌, false, OnOk};
 use crate::lines::do_text;
 use board_record::BoardId;
 use line_base::{Memory, Side};
-use line_engine::{Line, write_summary};
+use line_engine::{LaneMark, LaneStanding, Line, write_summary};
 use standings::{Mark, Standing};
 use std::alloc::Global;
 use std::io::{self, Write};
@@ -27,15 +27,15 @@ fn tell_script(alloc: Global, script: &str, line: &mut Line, to: &mut Vec<u8>) -
     write_summary(&line.summary(), to)
 }
 
-/// Does a line of the case: `? ID` asks where a board stands and for its marks, `? M SIDE` how
-/// many bytes are on their way to a side, `@N one; other` does two script lines in turn N times
+/// Does a line of the case: `? ID` asks where a board stands and for its marks on all lanes, `? M SIDE`
+/// how many bytes are on their way to a side on lane 1, `@N one; other` does two script lines in turn N times
 /// and tells nothing, and any other is a script line.
 fn tell_text(alloc: Global, text: &str, line: &mut Line, to: &mut Vec<u8>) -> Result<(), Memory>
     requires { line.old.spent ≡ false }
     ensures { OnOk result (line.new.spent ≡ false) }
 {
     if let Some(asked) = text.strip_prefix("? ") {
-        return answer(asked, line, to);
+        return answer(alloc, asked, line, to);
     }
     match text.strip_prefix('@') {
         Some(rest) => repeat(alloc, rest, line),
@@ -43,12 +43,12 @@ fn tell_text(alloc: Global, text: &str, line: &mut Line, to: &mut Vec<u8>) -> Re
     }
 }
 
-fn answer(asked: &str, line: &Line, to: &mut Vec<u8>) -> Result<(), Memory>
+fn answer(alloc: Global, asked: &str, line: &Line, to: &mut Vec<u8>) -> Result<(), Memory>
     requires { line.now.spent ≡ false }
 {
     match asked.split_once(' ') {
         Some((machine, side)) => tell_in_flight(machine, side, line, to),
-        None => tell_board(asked, line, to),
+        None => tell_board(alloc, asked, line, to),
     }
 }
 
@@ -61,34 +61,47 @@ fn tell_in_flight(machine: &str, side: &str, line: &Line, to: &mut Vec<u8>) -> R
         "in" => Side::Entry,
         _ => Side::Exit,
     };
-    let count = line.in_flight(machine, side);
+    let count = line.in_flight(1, machine, side);
     written(write!(to, "? {count} bytes\n"))
 }
 
 /// Appends where a board stands, and its marks.
-fn tell_board(text: &str, line: &Line, to: &mut Vec<u8>) -> Result<(), Memory>
+fn tell_board(alloc: Global, text: &str, line: &Line, to: &mut Vec<u8>) -> Result<(), Memory>
     requires { line.now.spent ≡ false }
 {
     match BoardId::read(text.as_bytes()) {
         Err(_) => written(write!(to, "? no id\n")),
         Ok(id) => {
             tell_standing(line.standing(id), to)?;
-            tell_marks(line.marks(id), to)
+            let marks = line.all_marks(alloc, id)?;
+            tell_marks(marks.as_slice(), to)
         }
     }
 }
 
-fn tell_standing(standing: Option<Standing>, to: &mut Vec<u8>) -> Result<(), Memory> {
-    match standing {
-        None => written(write!(to, "? nowhere")),
-        Some(Standing::With(machine)) => written(write!(to, "? with {machine}")),
-        Some(Standing::Between(gap)) => written(write!(to, "? between {gap}")),
+fn tell_standing(place: Option<LaneStanding>, to: &mut Vec<u8>) -> Result<(), Memory> {
+    let Some(place) = place else {
+        return written(write!(to, "? nowhere"));
+    };
+    match place.standing {
+        Standing::With(machine) => written(write!(to, "? with {machine}"))?,
+        Standing::Between(gap) => written(write!(to, "? between {gap}"))?,
     }
+    tell_lane(place.lane, to)
 }
 
-fn tell_marks(marks: &[Mark], to: &mut Vec<u8>) -> Result<(), Memory> {
+/// Appends a lane, but not the first one.
+fn tell_lane(lane: u32, to: &mut Vec<u8>) -> Result<(), Memory> {
+    if lane == 1 {
+        return Ok(());
+    }
+    written(write!(to, " of lane {lane}"))
+}
+
+fn tell_marks(marks: &[LaneMark], to: &mut Vec<u8>) -> Result<(), Memory> {
     for mark in marks {
-        tell_mark(*mark, to)?;
+        tell_mark(mark.mark, to)?;
+        tell_lane(mark.lane, to)?;
     }
     written(write!(to, "\n"))
 }

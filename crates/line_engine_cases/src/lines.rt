@@ -1,11 +1,12 @@
 //! A line of a script is read and done.
 
 ghost use Rattle.std.specs.Prelude.{◌≡◌, ◌+◌, ◌≤◌, false, OnOk};
-ghost use Rattle.line_script.specs.Ranges.{IsWithin};
+ghost use Rattle.line_script.specs.Ranges.{IsLaneWithin};
+ghost use Rattle.line_lanes.specs.Lanes.{lines_of};
 
 use line_base::Memory;
-use line_engine::{Line, write_happening};
-use line_script::{LineError, LineWhy, ScriptLine, read_line};
+use line_engine::{Line, write_all};
+use line_script::{LaneLine, LineError, LineWhy, read_line};
 use std::alloc::Global;
 use std::io::Write;
 
@@ -28,17 +29,14 @@ pub fn do_text(alloc: Global, text: &str, line: &mut Line, to: &mut Vec<u8>) -> 
     }
 }
 
-fn do_line(number: u64, asked: &ScriptLine, line: &mut Line, to: &mut Vec<u8>) -> Result<(), Memory>
-    requires numbered { number ≡ line.old.lines + 1 }
+fn do_line(number: u64, asked: &LaneLine, line: &mut Line, to: &mut Vec<u8>) -> Result<(), Memory>
+    requires numbered { number ≡ lines_of line.old + 1 }
     requires few { number ≤ 1000000 }
-    requires within { IsWithin asked.now }
+    requires within { IsLaneWithin asked.now }
     ensures { OnOk result (line.new.spent ≡ false) }
 {
     let told = line.step(number, asked)?;
-    for happening in told.list() {
-        write_happening(number, happening, to)?;
-    }
-    Ok(())
+    write_all(number, &told, to)
 }
 
 fn refuse(number: u64, why: LineWhy, to: &mut Vec<u8>) -> Result<(), Memory> {

@@ -1,13 +1,15 @@
 //! A case: its name, and then a script.
 
 ghost use Rattle.std.specs.Prelude.{◌≡◌, ◌+◌, ◌≤◌, false, OnOk};
-ghost use Rattle.line_script.specs.Ranges.{IsWithin};
+ghost use Rattle.line_script.specs.Ranges.{IsLaneWithin};
+ghost use Rattle.line_lanes.specs.Lanes.{lines_of};
 
 use crate::replay::{Replay, Wrong};
 use board_record::BoardId;
 use line_base::Memory;
 use line_engine::Line;
-use line_script::{LineError, ScriptLine, read_line};
+use line_report::LaneParts;
+use line_script::{LaneLine, LineError, read_line};
 use std::alloc::Global;
 use std::io::{self, Write};
 
@@ -61,17 +63,19 @@ fn do_text(alloc: Global, text: &str, line: &mut Line, replay: &mut Replay) -> R
 fn do_line(
     alloc: Global,
     number: u64,
-    asked: &ScriptLine,
+    asked: &LaneLine,
     line: &mut Line,
     replay: &mut Replay,
 ) -> Result<(), Memory>
-    requires numbered { number ≡ line.old.lines + 1 }
+    requires numbered { number ≡ lines_of line.old + 1 }
     requires few { number ≤ 1000000 }
-    requires within { IsWithin asked.now }
+    requires within { IsLaneWithin asked.now }
     ensures { OnOk result (line.new.spent ≡ false) }
 {
     let told = line.step(number, asked)?;
-    replay.follow(alloc, told.list(), line)
+    // the scripts are of one lane, and what happened on it is one part
+    let LaneParts { earlier: _, last } = told.parts();
+    replay.follow(alloc, last.told.list(), line)
 }
 
 fn tell_wrong(line: u64, wrong: Wrong, to: &mut Vec<u8>) -> Result<(), Memory> {

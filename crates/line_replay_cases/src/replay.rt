@@ -107,10 +107,13 @@ impl Replay {
         let mut compared = self.compared;
         let mut wrong = None;
         for id in self.ledger.seen() {
-            if self.ledger.standing(alloc, *id)? != line.standing(*id) {
+            if self.ledger.standing(alloc, *id)? != standing_on(line, *id) {
                 wrong = Some(Wrong::Standing(*id));
             }
-            if !are_same(self.ledger.marks(alloc, *id)?.as_slice(), line.marks(*id)) {
+            if !are_same(
+                self.ledger.marks(alloc, *id)?.as_slice(),
+                line.marks(1, *id),
+            ) {
                 wrong = Some(Wrong::Marks(*id));
             }
             compared = compared.saturating_add(1);
@@ -133,6 +136,16 @@ fn is_lie(happening: &Happening) -> bool {
     match happening {
         Happening::Lie { .. } | Happening::Unseen { .. } => true,
         _ => false,
+    }
+}
+
+/// Where a board stands on the line, which has one lane.
+fn standing_on(line: &Line, id: BoardId) -> Option<Standing>
+    requires { line.now.spent ≡ false }
+{
+    match line.standing(id) {
+        Some(place) => Some(place.standing),
+        None => None,
     }
 }
 

@@ -8,8 +8,8 @@ use Rattle.std.specs.Str.{bytes_eq}
 use Rattle.std.proofs.lemmas.Bool.{and_parts, leb-true}
 use Rattle.line_base.specs.Number.{is_digits, value_of}
 use Rattle.line_base.specs.Text.{IsText}
-use Rattle.line_script.specs.Grammar.{Kind, Value, arguments_as, asked_by, asked_by_word, barcode_word, board, coded, event_word, graded, identity, literal, mapped_ok, number, numeral, quality_word, seen, segment_word, side_word, sided, signalled, spelled, switch_word, switched, then_ok, token, value_as, values_as}
-use Rattle.line_script.specs.Words.{asked_by_of, barcode_from, barcode_in, event_of, identity_of, is_text_byte, literal_of, number_in, quality_of, segment_line_of, side_of, switch_of, token_of}
+use Rattle.line_script.specs.Grammar.{Kind, Value, arguments_as, asked_by, asked_by_word, barcode_word, board, coded, event_word, graded, identity, literal, mapped_ok, number, numeral, place_number, placed, quality_word, seen, segment_word, side_word, sided, signalled, spelled, switch_word, switched, then_ok, token, value_as, values_as}
+use Rattle.line_script.specs.Words.{asked_by_of, barcode_from, barcode_in, event_of, identity_of, is_text_byte, literal_of, number_in, place_of, quality_of, segment_line_of, side_of, switch_of, token_of}
 use Rattle.line_script.specs.declared.line.LineWhy.{LineWhy}
 use Rattle.line_script.proofs.Tokens.{IsAllowed-from_text}
 
@@ -64,6 +64,8 @@ coded_by (Err why) text = tt
 value_says : (kind : Kind) (word : List ℕ) → SaysOk kind (value_as kind word)
 value_says (number low high) word =
     number_says low high (value_of word) word (is_digits 1 15 word) (nat_le low (value_of word) && nat_le (value_of word) high) refl refl refl
+value_says (place_number most) word =
+    mapped_says (place_number most) (λ place. placed place.number place.lane) (place_of most word) (λ value. tt)
 value_says identity word = mapped_says identity board (identity_of word) (λ value. tt)
 value_says (literal wanted) word = mapped_says (literal wanted) (λ _. spelled wanted) (literal_of wanted word) (λ value. tt)
 value_says token word = token_says word (nat_le (length word) 64) (list_all is_text_byte word) refl refl

@@ -8,18 +8,21 @@ use Rattle.line_base.specs.declared.states.Side.{Side}
 use Rattle.line_base.specs.declared.states.Side.TheVariants as sides
 use Rattle.hermes_vertical.specs.declared.message.Question.TheVariants as questions
 use Rattle.smema_bridge.specs.declared.line.SegmentLine.{SegmentLine}
-use Rattle.line_script.specs.Words.{words_of, is_text_byte, number_in, literal_of, identity_of, token_of, side_of, quality_of, event_of, segment_line_of, switch_of, asked_by_of, question_of, barcode_of}
+use Rattle.line_script.specs.Words.{words_of, is_text_byte, number_in, literal_of, identity_of, token_of, side_of, quality_of, event_of, segment_line_of, switch_of, asked_by_of, question_of, barcode_of, place_of}
 use Rattle.line_script.specs.declared.words.AskedBy.{AskedBy}
+use Rattle.line_script.specs.declared.line.LaneLine.{LaneLine}
+use Rattle.line_script.specs.declared.line.LaneLine.TheVariants as lane_lines
 use Rattle.line_script.specs.declared.line.LineWhy.{LineWhy}
 use Rattle.line_script.specs.declared.line.LineWhy.TheVariants as whys
 use Rattle.line_script.specs.declared.line.ScriptLine.{ScriptLine}
 use Rattle.line_script.specs.declared.line.ScriptLine.TheVariants as lines
 
--- the kinds of arguments: a number between two bounds, a board's id, one fixed word, a text word,
--- a side of a machine, a quality, a sensor event, a signal of a segment, on or off, what a work
--- order is asked for by, a barcode or none
+-- the kinds of arguments: a number between two bounds, a place word, whose number is so much at
+-- most, a board's id, one fixed word, a text word, a side of a machine, a quality, a sensor event,
+-- a signal of a segment, on or off, what a work order is asked for by, a barcode or none
 pub data Kind : Type 0 where
   number : ℕ → ℕ → Kind
+  place_number : ℕ → Kind
   identity : Kind
   literal : List ℕ → Kind
   token : Kind
@@ -31,9 +34,10 @@ pub data Kind : Type 0 where
   asked_by_word : Kind
   barcode_word : Kind
 
--- what an argument says
+-- what an argument says; a place word a number and a lane
 pub data Value : Type 0 where
   numeral : ℕ → Value
+  placed : ℕ → ℕ → Value
   board : ℕ → Value
   spelled : List ℕ → Value
   sided : Side → Value
@@ -50,99 +54,113 @@ pub record Form : Type 0 where
   pub word : List ℕ
   pub counts : List ℕ
   pub arguments : ℕ → List Kind
-  pub made : List Value → Result ScriptLine LineWhy
+  pub made : List Value → Result LaneLine LineWhy
 
 -- machines are numbered 1 to 64
 abbrev pub machine_number : Kind
 machine_number = number 1 64
 
+abbrev pub machine_place : Kind
+machine_place = place_number 64
+
 -- gap k, between the machines k and k + 1, is numbered 1 to 63
-abbrev pub gap_number : Kind
-gap_number = number 1 63
+abbrev pub gap_place : Kind
+gap_place = place_number 63
+
+-- the lanes of a line are numbered 1 to 4
+abbrev pub lane_number : Kind
+lane_number = number 1 4
+
+-- a line of this lane. What names no lane is of lane 1
+abbrev pub on_lane : ℕ → ScriptLine → Result LaneLine LineWhy
+on_lane lane line = Ok (lane_lines.On lane line)
 
 -- a machine with room for so many boards, that has made no id or so many
-abbrev pub made_room : (ℕ → ℕ → ScriptLine) → List Value → Result ScriptLine LineWhy
-made_room line (numeral capacity ∷ []) = Ok (line capacity 0)
-made_room line (numeral capacity ∷ spelled used ∷ numeral count ∷ []) = Ok (line capacity count)
+abbrev pub made_room : (ℕ → ℕ → ScriptLine) → List Value → Result LaneLine LineWhy
+made_room line (numeral capacity ∷ []) = on_lane 1 (line capacity 0)
+made_room line (numeral capacity ∷ spelled used ∷ numeral count ∷ []) =
+    on_lane 1 (line capacity count)
 made_room line _ = Err whys.WrongCount
 
-abbrev pub made_machine : List Value → Result ScriptLine LineWhy
+abbrev pub made_machine : List Value → Result LaneLine LineWhy
 made_machine = made_room lines.Machine
 
-abbrev pub made_bridge : List Value → Result ScriptLine LineWhy
+abbrev pub made_bridge : List Value → Result LaneLine LineWhy
 made_bridge = made_room lines.Bridge
 
-abbrev pub made_insert : List Value → Result ScriptLine LineWhy
-made_insert (numeral machine ∷ []) = Ok (lines.Insert machine None)
-made_insert (numeral machine ∷ spelled barcode ∷ []) = Ok (lines.Insert machine (Some barcode))
+abbrev pub made_insert : List Value → Result LaneLine LineWhy
+made_insert (placed machine lane ∷ []) = on_lane lane (lines.Insert machine None)
+made_insert (placed machine lane ∷ spelled barcode ∷ []) =
+    on_lane lane (lines.Insert machine (Some barcode))
 made_insert _ = Err whys.WrongCount
 
-abbrev pub made_remove : List Value → Result ScriptLine LineWhy
-made_remove (numeral machine ∷ board id ∷ []) = Ok (lines.Remove machine id)
+abbrev pub made_remove : List Value → Result LaneLine LineWhy
+made_remove (placed machine lane ∷ board id ∷ []) = on_lane lane (lines.Remove machine id)
 made_remove _ = Err whys.WrongCount
 
-abbrev pub made_replace : List Value → Result ScriptLine LineWhy
-made_replace (numeral machine ∷ board id ∷ []) = Ok (lines.Replace machine id)
+abbrev pub made_replace : List Value → Result LaneLine LineWhy
+made_replace (placed machine lane ∷ board id ∷ []) = on_lane lane (lines.Replace machine id)
 made_replace _ = Err whys.WrongCount
 
-abbrev pub made_mark : List Value → Result ScriptLine LineWhy
-made_mark (numeral machine ∷ board id ∷ graded quality ∷ []) = Ok (lines.Mark machine id quality)
+abbrev pub made_mark : List Value → Result LaneLine LineWhy
+made_mark (placed machine lane ∷ board id ∷ graded quality ∷ []) =
+    on_lane lane (lines.Mark machine id quality)
 made_mark _ = Err whys.WrongCount
 
-abbrev pub made_sub : List Value → Result ScriptLine LineWhy
-made_sub (numeral machine ∷ board id ∷ numeral place ∷ coded barcode ∷ []) =
-    Ok (lines.Sub machine id place barcode)
+abbrev pub made_sub : List Value → Result LaneLine LineWhy
+made_sub (placed machine lane ∷ board id ∷ numeral pos ∷ coded barcode ∷ []) =
+    on_lane lane (lines.Sub machine id pos barcode)
 made_sub _ = Err whys.WrongCount
 
-abbrev pub made_hold : List Value → Result ScriptLine LineWhy
-made_hold (numeral machine ∷ sided side ∷ []) = Ok (lines.Hold machine side)
+abbrev pub made_hold : List Value → Result LaneLine LineWhy
+made_hold (placed machine lane ∷ sided side ∷ []) = on_lane lane (lines.Hold machine side)
 made_hold _ = Err whys.WrongCount
 
-abbrev pub made_go : List Value → Result ScriptLine LineWhy
-made_go (numeral machine ∷ sided side ∷ []) = Ok (lines.Go machine side)
+abbrev pub made_go : List Value → Result LaneLine LineWhy
+made_go (placed machine lane ∷ sided side ∷ []) = on_lane lane (lines.Go machine side)
 made_go _ = Err whys.WrongCount
 
-abbrev pub made_signal : List Value → Result ScriptLine LineWhy
-made_signal (numeral machine ∷ signalled line ∷ switched on ∷ []) =
-    Ok (lines.Signal machine line on)
+abbrev pub made_signal : List Value → Result LaneLine LineWhy
+made_signal (placed machine lane ∷ signalled line ∷ switched on ∷ []) =
+    on_lane lane (lines.Signal machine line on)
 made_signal _ = Err whys.WrongCount
 
-abbrev pub made_connect : List Value → Result ScriptLine LineWhy
-made_connect (numeral machine ∷ []) = Ok (lines.Connect machine)
+abbrev pub made_connect : List Value → Result LaneLine LineWhy
+made_connect (placed machine lane ∷ []) = on_lane lane (lines.Connect machine)
 made_connect _ = Err whys.WrongCount
 
-abbrev pub made_flow : List Value → Result ScriptLine LineWhy
-made_flow (numeral machine ∷ sided side ∷ []) = Ok (lines.Flow machine side None)
-made_flow (numeral machine ∷ sided side ∷ numeral count ∷ []) =
-    Ok (lines.Flow machine side (Some count))
+abbrev pub made_flow : List Value → Result LaneLine LineWhy
+made_flow (placed machine lane ∷ sided side ∷ []) = on_lane lane (lines.Flow machine side None)
+made_flow (placed machine lane ∷ sided side ∷ numeral count ∷ []) =
+    on_lane lane (lines.Flow machine side (Some count))
 made_flow _ = Err whys.WrongCount
 
-abbrev pub made_notice : List Value → Result ScriptLine LineWhy
-made_notice (numeral machine ∷ sided side ∷ []) = Ok (lines.Notice machine side)
+abbrev pub made_notice : List Value → Result LaneLine LineWhy
+made_notice (placed machine lane ∷ sided side ∷ []) = on_lane lane (lines.Notice machine side)
 made_notice _ = Err whys.WrongCount
 
-abbrev pub made_cut : List Value → Result ScriptLine LineWhy
-made_cut (numeral gap ∷ []) = Ok (lines.Cut gap)
+abbrev pub made_cut : List Value → Result LaneLine LineWhy
+made_cut (placed gap lane ∷ []) = on_lane lane (lines.Cut gap)
 made_cut _ = Err whys.WrongCount
 
-abbrev pub made_spoil : List Value → Result ScriptLine LineWhy
-made_spoil (numeral machine ∷ sided side ∷ []) = Ok (lines.Spoil machine side)
+abbrev pub made_spoil : List Value → Result LaneLine LineWhy
+made_spoil (placed machine lane ∷ sided side ∷ []) = on_lane lane (lines.Spoil machine side)
 made_spoil _ = Err whys.WrongCount
 
-abbrev pub made_shutdown : List Value → Result ScriptLine LineWhy
-made_shutdown (numeral machine ∷ []) = Ok (lines.Shutdown machine)
+abbrev pub made_shutdown : List Value → Result LaneLine LineWhy
+made_shutdown (placed machine lane ∷ []) = on_lane lane (lines.Shutdown machine)
 made_shutdown _ = Err whys.WrongCount
 
-abbrev pub made_stop : List Value → Result ScriptLine LineWhy
-made_stop (numeral machine ∷ []) = Ok (lines.Stop machine)
+abbrev pub made_stop : List Value → Result LaneLine LineWhy
+made_stop (numeral machine ∷ []) = on_lane 1 (lines.Stop machine)
 made_stop _ = Err whys.WrongCount
 
-abbrev pub made_tick : List Value → Result ScriptLine LineWhy
-made_tick (numeral machine ∷ []) = Ok (lines.Tick machine)
+abbrev pub made_tick : List Value → Result LaneLine LineWhy
+made_tick (placed machine lane ∷ []) = on_lane lane (lines.Tick machine)
 made_tick _ = Err whys.WrongCount
 
-abbrev pub made_fault : List Value → Result ScriptLine LineWhy
-made_fault (numeral machine ∷ sided side ∷ []) = Ok (lines.Fault machine side)
+abbrev pub made_fault : List Value → Result LaneLine LineWhy
+made_fault (placed machine lane ∷ sided side ∷ []) = on_lane lane (lines.Fault machine side)
 made_fault _ = Err whys.WrongCount
 
 -- the entry's sensors see no board leave, and the exit's see none come wholly in
@@ -158,86 +176,96 @@ is_seen_at sides.Exit events.Full = false
 is_seen_at sides.Exit events.Back = true
 is_seen_at sides.Exit events.Taken = true
 
-abbrev pub lie_of : ℕ → Side → SensorEvent → Result ScriptLine LineWhy
-lie_of machine side event =
-    if is_seen_at side event then Ok
+abbrev pub lie_of : ℕ → ℕ → Side → SensorEvent → Result LaneLine LineWhy
+lie_of lane machine side event =
+    if is_seen_at side event then on_lane lane
     (lines.Lie machine (record { side = side; event = event })) else Err whys.BadWord
 
-abbrev pub made_lie : List Value → Result ScriptLine LineWhy
-made_lie (numeral machine ∷ sided side ∷ seen event ∷ []) = lie_of machine side event
+abbrev pub made_lie : List Value → Result LaneLine LineWhy
+made_lie (placed machine lane ∷ sided side ∷ seen event ∷ []) = lie_of lane machine side event
 made_lie _ = Err whys.WrongCount
 
-abbrev pub made_unseen : List Value → Result ScriptLine LineWhy
-made_unseen (sided side ∷ numeral machine ∷ []) = Ok (lines.Unseen machine side)
+abbrev pub made_unseen : List Value → Result LaneLine LineWhy
+made_unseen (sided side ∷ placed machine lane ∷ []) = on_lane lane (lines.Unseen machine side)
 made_unseen _ = Err whys.WrongCount
 
-abbrev pub made_sense : List Value → Result ScriptLine LineWhy
-made_sense (numeral machine ∷ []) = Ok (lines.Sense machine)
+abbrev pub made_sense : List Value → Result LaneLine LineWhy
+made_sense (placed machine lane ∷ []) = on_lane lane (lines.Sense machine)
 made_sense _ = Err whys.WrongCount
 
-abbrev pub made_begin : List Value → Result ScriptLine LineWhy
-made_begin (numeral gap ∷ []) = Ok (lines.Begin gap)
+abbrev pub made_begin : List Value → Result LaneLine LineWhy
+made_begin (placed gap lane ∷ []) = on_lane lane (lines.Begin gap)
 made_begin _ = Err whys.WrongCount
 
-abbrev pub made_left : List Value → Result ScriptLine LineWhy
-made_left (numeral gap ∷ []) = Ok (lines.Left gap)
+abbrev pub made_left : List Value → Result LaneLine LineWhy
+made_left (placed gap lane ∷ []) = on_lane lane (lines.Left gap)
 made_left _ = Err whys.WrongCount
 
-abbrev pub made_enter : List Value → Result ScriptLine LineWhy
-made_enter (numeral gap ∷ []) = Ok (lines.Enter gap)
+abbrev pub made_enter : List Value → Result LaneLine LineWhy
+made_enter (placed gap lane ∷ []) = on_lane lane (lines.Enter gap)
 made_enter _ = Err whys.WrongCount
 
-abbrev pub made_back : List Value → Result ScriptLine LineWhy
-made_back (numeral gap ∷ []) = Ok (lines.Back gap)
+abbrev pub made_back : List Value → Result LaneLine LineWhy
+made_back (placed gap lane ∷ []) = on_lane lane (lines.Back gap)
 made_back _ = Err whys.WrongCount
 
-abbrev pub made_hand_in : List Value → Result ScriptLine LineWhy
-made_hand_in (numeral gap ∷ []) = Ok (lines.HandIn gap)
+abbrev pub made_hand_in : List Value → Result LaneLine LineWhy
+made_hand_in (placed gap lane ∷ []) = on_lane lane (lines.HandIn gap)
 made_hand_in _ = Err whys.WrongCount
 
-abbrev pub made_take : List Value → Result ScriptLine LineWhy
-made_take (numeral gap ∷ []) = Ok (lines.Take gap)
+abbrev pub made_take : List Value → Result LaneLine LineWhy
+made_take (placed gap lane ∷ []) = on_lane lane (lines.Take gap)
 made_take _ = Err whys.WrongCount
 
-abbrev pub made_show : List Value → Result ScriptLine LineWhy
-made_show [] = Ok lines.Show
+abbrev pub made_show : List Value → Result LaneLine LineWhy
+made_show [] = on_lane 1 lines.Show
 made_show _ = Err whys.WrongCount
 
-abbrev pub made_forecast : List Value → Result ScriptLine LineWhy
-made_forecast (numeral machine ∷ []) = Ok (lines.Forecast machine)
+abbrev pub made_forecast : List Value → Result LaneLine LineWhy
+made_forecast (placed machine lane ∷ []) = on_lane lane (lines.Forecast machine)
 made_forecast _ = Err whys.WrongCount
 
-abbrev pub made_query : List Value → Result ScriptLine LineWhy
-made_query (numeral machine ∷ spelled barcode ∷ []) = Ok (lines.Query machine barcode)
+abbrev pub made_query : List Value → Result LaneLine LineWhy
+made_query (placed machine lane ∷ spelled barcode ∷ []) = on_lane lane (lines.Query machine barcode)
 made_query _ = Err whys.WrongCount
 
-abbrev pub made_supervise : List Value → Result ScriptLine LineWhy
-made_supervise (numeral machine ∷ []) = Ok (lines.Supervise machine)
+abbrev pub made_supervise : List Value → Result LaneLine LineWhy
+made_supervise (numeral machine ∷ []) = on_lane 1 (lines.Supervise machine)
 made_supervise _ = Err whys.WrongCount
 
-abbrev pub made_ask : List Value → Result ScriptLine LineWhy
+abbrev pub made_ask : List Value → Result LaneLine LineWhy
 made_ask (numeral machine ∷ asked_by by ∷ spelled text ∷ []) =
-    Ok (lines.Ask machine (question_of by text))
-made_ask (numeral machine ∷ spelled place ∷ spelled magazine ∷ numeral slot ∷ []) =
-    Ok (lines.Ask machine (questions.Place magazine slot))
+    on_lane 1 (lines.Ask machine (question_of by text))
+made_ask (numeral machine ∷ spelled word ∷ spelled magazine ∷ numeral slot ∷ []) =
+    on_lane 1 (lines.Ask machine (questions.Place magazine slot))
 made_ask _ = Err whys.WrongCount
 
-abbrev pub made_answer : List Value → Result ScriptLine LineWhy
+abbrev pub made_answer : List Value → Result LaneLine LineWhy
 made_answer (numeral machine ∷ numeral query ∷ spelled order ∷ []) =
-    Ok (lines.Answer machine query order)
+    on_lane 1 (lines.Answer machine query order)
 made_answer _ = Err whys.WrongCount
+
+abbrev pub made_lanes : List Value → Result LaneLine LineWhy
+made_lanes (numeral count ∷ []) = Ok (lane_lines.Lanes count)
+made_lanes _ = Err whys.WrongCount
+
+abbrev pub made_shift : List Value → Result LaneLine LineWhy
+made_shift (placed machine lane ∷ numeral to ∷ board id ∷ []) =
+    Ok (lane_lines.Shift machine lane to id)
+made_shift _ = Err whys.WrongCount
 
 -- how many boards a machine has room for, and how many ids it has made
 abbrev pub room_words : List Kind
 room_words = number 1 1024 ∷ literal (codes "used") ∷ number 0 281474976710655 ∷ []
 
 -- THE TABLE: `machine c [used u]`, `bridge c [used u]`, `insert m [barcode]`, `query m barcode`,
--- `remove m id`, `replace m id`, `mark m id unknown|good|failed`, `sub m id pos barcode`, `hold m
--- side`, `go m side`,
+-- `remove m id`, `replace m id`, `shift m t id`, `mark m id unknown|good|failed`, `sub m id pos
+-- barcode`, `hold m side`, `go m side`,
 -- `signal m ready|available|failed on|off`, `connect m`, `flow m side [n]`, `notice m side`, `cut
 -- k`, `spoil m side`, `forecast m`, `shutdown m`, `stop m`, `tick m`, `fault m side`, `lie m side
 -- event`, `unseen side m`, `sense m`, `begin k`, `left k`, `in k`, `back k`, `hand-in k`, `take k`,
--- `show`, `supervise m`, `ask m barcode|order w`, `ask m place w s`, `answer m q w`
+-- `lanes n`, `show`, `supervise m`, `ask m barcode|order w`, `ask m place w s`, `answer m q w`. Each
+-- m and k is a place word, but in `stop`, `supervise`, `ask` and `answer`
 abbrev pub machine_form : Form
 machine_form =
     record {
@@ -262,7 +290,7 @@ insert_form =
       word = codes "insert";
       counts = 1 ∷ 2 ∷ [];
       arguments = λ _.
-          machine_number ∷ token ∷ [];
+          machine_place ∷ token ∷ [];
       made = made_insert;
     }
 
@@ -271,7 +299,7 @@ query_form =
     record {
       word = codes "query";
       counts = 2 ∷ [];
-      arguments = λ _. machine_number ∷ token ∷ [];
+      arguments = λ _. machine_place ∷ token ∷ [];
       made = made_query;
     }
 
@@ -280,11 +308,11 @@ query_form =
 abbrev pub text_words : List Kind
 text_words = machine_number ∷ asked_by_word ∷ token ∷ []
 
-abbrev pub place_words : List Kind
-place_words = machine_number ∷ literal (codes "place") ∷ token ∷ number 0 999999999 ∷ []
+abbrev pub slot_words : List Kind
+slot_words = machine_number ∷ literal (codes "place") ∷ token ∷ number 0 999999999 ∷ []
 
 abbrev pub question_words : ℕ → List Kind
-question_words count = if nat_eq count 4 then place_words else text_words
+question_words count = if nat_eq count 4 then slot_words else text_words
 
 abbrev pub ask_form : Form
 ask_form =
@@ -304,7 +332,7 @@ abbrev pub sub_form : Form
 sub_form = record {
   word = codes "sub";
   counts = 4 ∷ [];
-  arguments = λ _. machine_number ∷ identity ∷ number 0 999999999 ∷ barcode_word ∷ [];
+  arguments = λ _. machine_place ∷ identity ∷ number 0 999999999 ∷ barcode_word ∷ [];
   made = made_sub;
 }
 
@@ -314,7 +342,7 @@ remove_form =
       word = codes "remove";
       counts = 2 ∷ [];
       arguments = λ _.
-          machine_number ∷ identity ∷ [];
+          machine_place ∷ identity ∷ [];
       made = made_remove;
     }
 
@@ -324,7 +352,7 @@ replace_form =
       word = codes "replace";
       counts = 2 ∷ [];
       arguments = λ _.
-          machine_number ∷ identity ∷ [];
+          machine_place ∷ identity ∷ [];
       made = made_replace;
     }
 
@@ -334,7 +362,7 @@ mark_form =
       word = codes "mark";
       counts = 3 ∷ [];
       arguments = λ _.
-          machine_number ∷ identity ∷ quality_word ∷ [];
+          machine_place ∷ identity ∷ quality_word ∷ [];
       made = made_mark;
     }
 
@@ -344,7 +372,7 @@ hold_form =
       word = codes "hold";
       counts = 2 ∷ [];
       arguments = λ _.
-          machine_number ∷ side_word ∷ [];
+          machine_place ∷ side_word ∷ [];
       made = made_hold;
     }
 
@@ -353,7 +381,7 @@ go_form =
     record {
       word = codes "go";
       counts = 2 ∷ [];
-      arguments = λ _. machine_number ∷ side_word ∷ [];
+      arguments = λ _. machine_place ∷ side_word ∷ [];
       made = made_go;
     }
 
@@ -361,7 +389,7 @@ abbrev pub signal_form : Form
 signal_form = record {
   word = codes "signal";
   counts = 3 ∷ [];
-  arguments = λ _. machine_number ∷ segment_word ∷ switch_word ∷ [];
+  arguments = λ _. machine_place ∷ segment_word ∷ switch_word ∷ [];
   made = made_signal;
 }
 
@@ -370,7 +398,7 @@ connect_form =
     record {
       word = codes "connect";
       counts = 1 ∷ [];
-      arguments = λ _. machine_number ∷ [];
+      arguments = λ _. machine_place ∷ [];
       made = made_connect;
     }
 
@@ -380,7 +408,7 @@ flow_form =
       word = codes "flow";
       counts = 2 ∷ 3 ∷ [];
       arguments = λ _.
-          machine_number ∷ side_word ∷ number 1 65536 ∷ [];
+          machine_place ∷ side_word ∷ number 1 65536 ∷ [];
       made = made_flow;
     }
 
@@ -390,7 +418,7 @@ notice_form =
       word = codes "notice";
       counts = 2 ∷ [];
       arguments = λ _.
-          machine_number ∷ side_word ∷ [];
+          machine_place ∷ side_word ∷ [];
       made = made_notice;
     }
 
@@ -399,7 +427,7 @@ cut_form =
     record {
       word = codes "cut";
       counts = 1 ∷ [];
-      arguments = λ _. gap_number ∷ [];
+      arguments = λ _. gap_place ∷ [];
       made = made_cut;
     }
 
@@ -409,7 +437,7 @@ spoil_form =
       word = codes "spoil";
       counts = 2 ∷ [];
       arguments = λ _.
-          machine_number ∷ side_word ∷ [];
+          machine_place ∷ side_word ∷ [];
       made = made_spoil;
     }
 
@@ -418,7 +446,7 @@ forecast_form =
     record {
       word = codes "forecast";
       counts = 1 ∷ [];
-      arguments = λ _. machine_number ∷ [];
+      arguments = λ _. machine_place ∷ [];
       made = made_forecast;
     }
 
@@ -436,7 +464,7 @@ shutdown_form =
     record {
       word = codes "shutdown";
       counts = 1 ∷ [];
-      arguments = λ _. machine_number ∷ [];
+      arguments = λ _. machine_place ∷ [];
       made = made_shutdown;
     }
 
@@ -454,7 +482,7 @@ tick_form =
     record {
       word = codes "tick";
       counts = 1 ∷ [];
-      arguments = λ _. machine_number ∷ [];
+      arguments = λ _. machine_place ∷ [];
       made = made_tick;
     }
 
@@ -464,7 +492,7 @@ fault_form =
       word = codes "fault";
       counts = 2 ∷ [];
       arguments = λ _.
-          machine_number ∷ side_word ∷ [];
+          machine_place ∷ side_word ∷ [];
       made = made_fault;
     }
 
@@ -474,7 +502,7 @@ lie_form =
       word = codes "lie";
       counts = 3 ∷ [];
       arguments = λ _.
-          machine_number ∷ side_word ∷ event_word ∷ [];
+          machine_place ∷ side_word ∷ event_word ∷ [];
       made = made_lie;
     }
 
@@ -484,7 +512,7 @@ unseen_form =
       word = codes "unseen";
       counts = 2 ∷ [];
       arguments = λ _.
-          side_word ∷ machine_number ∷ [];
+          side_word ∷ machine_place ∷ [];
       made = made_unseen;
     }
 
@@ -493,7 +521,7 @@ sense_form =
     record {
       word = codes "sense";
       counts = 1 ∷ [];
-      arguments = λ _. machine_number ∷ [];
+      arguments = λ _. machine_place ∷ [];
       made = made_sense;
     }
 
@@ -502,7 +530,7 @@ begin_form =
     record {
       word = codes "begin";
       counts = 1 ∷ [];
-      arguments = λ _. gap_number ∷ [];
+      arguments = λ _. gap_place ∷ [];
       made = made_begin;
     }
 
@@ -511,7 +539,7 @@ left_form =
     record {
       word = codes "left";
       counts = 1 ∷ [];
-      arguments = λ _. gap_number ∷ [];
+      arguments = λ _. gap_place ∷ [];
       made = made_left;
     }
 
@@ -520,7 +548,7 @@ enter_form =
     record {
       word = codes "in";
       counts = 1 ∷ [];
-      arguments = λ _. gap_number ∷ [];
+      arguments = λ _. gap_place ∷ [];
       made = made_enter;
     }
 
@@ -529,7 +557,7 @@ back_form =
     record {
       word = codes "back";
       counts = 1 ∷ [];
-      arguments = λ _. gap_number ∷ [];
+      arguments = λ _. gap_place ∷ [];
       made = made_back;
     }
 
@@ -538,7 +566,7 @@ hand_in_form =
     record {
       word = codes "hand-in";
       counts = 1 ∷ [];
-      arguments = λ _. gap_number ∷ [];
+      arguments = λ _. gap_place ∷ [];
       made = made_hand_in;
     }
 
@@ -547,22 +575,39 @@ take_form =
     record {
       word = codes "take";
       counts = 1 ∷ [];
-      arguments = λ _. gap_number ∷ [];
+      arguments = λ _. gap_place ∷ [];
       made = made_take;
     }
+
+abbrev pub lanes_form : Form
+lanes_form =
+    record {
+      word = codes "lanes";
+      counts = 1 ∷ [];
+      arguments = λ _. lane_number ∷ [];
+      made = made_lanes;
+    }
+
+abbrev pub shift_form : Form
+shift_form = record {
+  word = codes "shift";
+  counts = 3 ∷ [];
+  arguments = λ _. machine_place ∷ lane_number ∷ identity ∷ [];
+  made = made_shift;
+}
 
 abbrev pub show_form : Form
 show_form = record { word = codes "show"; counts = 0 ∷ []; arguments = λ _. []; made = made_show }
 
--- the rows of reports; with those of the floor before them; with those of what befalls a machine;
--- with those of links; with those of boards, willingness and signals; and all rows
-abbrev pub report_forms : List Form
-report_forms = show_form ∷ []
+-- the rows of the whole line; with those of the floor before them; with those of what befalls a
+-- machine; with those of links; with those of boards, willingness and signals; and all rows
+abbrev pub whole_forms : List Form
+whole_forms = lanes_form ∷ show_form ∷ []
 
 abbrev pub floor_forms : List Form
 floor_forms =
     sense_form ∷ begin_form ∷ left_form ∷ enter_form ∷ back_form ∷ hand_in_form ∷ take_form ∷
-    report_forms
+    whole_forms
 
 abbrev pub machine_forms : List Form
 machine_forms =
@@ -575,7 +620,8 @@ link_forms =
 
 abbrev pub board_forms : List Form
 board_forms =
-    remove_form ∷ replace_form ∷ mark_form ∷ hold_form ∷ go_form ∷ signal_form ∷ link_forms
+    remove_form ∷ replace_form ∷ shift_form ∷ mark_form ∷ hold_form ∷ go_form ∷ signal_form ∷
+    link_forms
 
 abbrev pub forms : List Form
 forms = machine_form ∷ bridge_form ∷ insert_form ∷ query_form ∷ ask_form ∷ answer_form ∷
@@ -592,6 +638,8 @@ then_ok (Err why) next = Err why
 -- what a word says as an argument of a kind
 abbrev pub value_as : Kind → List ℕ → Result Value LineWhy
 value_as (number low high) word = mapped_ok numeral (number_in low high word)
+value_as (place_number most) word =
+    mapped_ok (λ place. placed place.number place.lane) (place_of most word)
 value_as identity word = mapped_ok board (identity_of word)
 value_as (literal wanted) word = mapped_ok (λ _. spelled wanted) (literal_of wanted word)
 value_as token word = mapped_ok spelled (token_of word)
@@ -617,12 +665,12 @@ arguments_as counts kinds words =
     if list_any (nat_eq (length words)) counts then values_as kinds words else Err whys.WrongCount
 
 -- the line that the arguments of a form make, or the first refusal
-abbrev pub line_as : Form → List (List ℕ) → Result ScriptLine LineWhy
+abbrev pub line_as : Form → List (List ℕ) → Result LaneLine LineWhy
 line_as form words =
     then_ok (arguments_as form.counts (form.arguments (length words)) words) form.made
 
 -- the same, for the form that has this first word
-abbrev pub line_among : List Form → List ℕ → List (List ℕ) → Result ScriptLine LineWhy
+abbrev pub line_among : List Form → List ℕ → List (List ℕ) → Result LaneLine LineWhy
 line_among [] first words = Err whys.UnknownWord
 line_among (form ∷ others) first words =
     if bytes_eq first form.word then line_as form words else line_among others first words
@@ -632,13 +680,13 @@ abbrev pub is_comment : List ℕ → Bool
 is_comment [] = false
 is_comment (b ∷ bs) = b == 35
 
-abbrev pub line_of_words : List (List ℕ) → Result ScriptLine LineWhy
-line_of_words [] = Ok lines.Blank
+abbrev pub line_of_words : List (List ℕ) → Result LaneLine LineWhy
+line_of_words [] = on_lane 1 lines.Blank
 line_of_words (first ∷ words) =
-    if is_comment first then Ok lines.Blank else line_among forms first words
+    if is_comment first then on_lane 1 lines.Blank else line_among forms first words
 
 -- what the bytes of one line ask for, or why they are refused: the first refusal that holds
-abbrev pub read_of : List ℕ → Result ScriptLine LineWhy
+abbrev pub read_of : List ℕ → Result LaneLine LineWhy
 read_of bytes =
     if nat_lt 4096 (length bytes) then Err whys.LongLine else
     (if list_all is_text_byte bytes then line_of_words (words_of bytes) else Err whys.NotText)

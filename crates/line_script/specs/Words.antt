@@ -1,4 +1,4 @@
-use Rattle.std.specs.Prelude.{◌≡◌, ◌==◌, ◌||◌, ◌&&◌, ℕ, Bool, true, false, List, Option, Some, None, Result, Ok, Err, codes, filter, length, nat_le, nat_lt, if◌then◌else◌}
+use Rattle.std.specs.Prelude.{◌≡◌, ◌==◌, ◌||◌, ◌&&◌, ◌+◌, ℕ, Bool, true, false, List, Option, Some, None, Result, Ok, Err, codes, drop, filter, length, nat_le, nat_lt, position, take, if◌then◌else◌}
 use Rattle.std.specs.List.{list_all, slice_split}
 use Rattle.std.specs.Str.{bytes_eq}
 use Rattle.line_base.specs.Number.{is_digits, value_of}
@@ -18,6 +18,7 @@ use Rattle.line_script.specs.declared.line.LineWhy.{LineWhy}
 use Rattle.line_script.specs.declared.line.LineWhy.TheVariants as whys
 use Rattle.line_script.specs.declared.words.AskedBy.{AskedBy}
 use Rattle.line_script.specs.declared.words.AskedBy.TheVariants as bys
+use Rattle.line_script.specs.declared.words.Place.{Place}
 use Rattle.line_script.specs.declared.line.LineError.{LineError}
 use Rattle.line_script.specs.declared.line.LineError.TheVariants as errors
 
@@ -41,6 +42,22 @@ number_between low high value =
 abbrev pub number_in : ℕ → ℕ → List ℕ → Result ℕ LineWhy
 number_in low high word =
     if is_digits 1 15 word then number_between low high (value_of word) else Err whys.BadNumber
+
+abbrev pub place_from : Result ℕ LineWhy → Result ℕ LineWhy → Result Place LineWhy
+place_from (Ok number) (Ok lane) = Ok (record { number = number; lane = lane })
+place_from (Ok number) (Err why) = Err why
+place_from (Err why) lane = Err why
+
+-- what a word says that has its first point there, or none
+abbrev pub place_at : ℕ → List ℕ → Option ℕ → Result Place LineWhy
+place_at most word None = place_from (number_in 1 most word) (Ok 1)
+place_at most word (Some i) =
+    place_from (number_in 1 most (take i word)) (number_in 1 4 (drop (i + 1) word))
+
+-- WHAT A PLACE WORD SAYS: the number of a machine or a gap, and a lane. `m` is on lane 1, `m.l` on
+-- lane l
+abbrev pub place_of : ℕ → List ℕ → Result Place LineWhy
+place_of most word = place_at most word (position (λ b. b == 46) word)
 
 -- this word and no other
 abbrev pub literal_of : List ℕ → List ℕ → Result (Unit {0}) LineWhy

@@ -1,23 +1,23 @@
 //! The reader of a line by its first word.
 
 ghost use Rattle.std.specs.Prelude.{◌≡◌, IfOk, map};
-ghost use Rattle.line_script.specs.Ranges.{IsWithin};
+ghost use Rattle.line_script.specs.Ranges.{IsLaneWithin};
 ghost use Rattle.line_script.specs.Words.{Reads};
-ghost use Rattle.line_script.specs.Grammar.{line_among, forms, board_forms, link_forms, machine_forms, floor_forms, report_forms};
+ghost use Rattle.line_script.specs.Grammar.{line_among, forms, board_forms, link_forms, machine_forms, floor_forms, whole_forms};
 
 use crate::forms::{
     answer, ask, back, begin, bridge, connect, cut, enter, fault, flow, forecast, go, hand_in,
-    hold, insert, left, lie, machine, mark, notice, query, refused, remove, replace, sense, show,
-    shutdown, signal, spoil, stop, sub, supervise, take, tick, unseen,
+    hold, insert, lanes, left, lie, machine, mark, notice, query, refused, remove, replace, sense,
+    shift, show, shutdown, signal, spoil, stop, sub, supervise, take, tick, unseen,
 };
-use crate::line::{LineError, LineWhy, ScriptLine};
+use crate::line::{LaneLine, LineError, LineWhy};
 use crate::words::is_word;
 use std::alloc::Global;
 
 /// The line that a first word and its arguments ask for.
-pub fn line_of(alloc: Global, first: &[u8], words: &[&[u8]]) -> Result<ScriptLine, LineError>
+pub fn line_of(alloc: Global, first: &[u8], words: &[&[u8]]) -> Result<LaneLine, LineError>
     ensures answer { Reads (line_among forms first.now (map (λ word. word.now) words.now)) result }
-    ensures within { IfOk result IsWithin }
+    ensures within { IfOk result IsLaneWithin }
 {
     if is_word(first, b"machine") {
         return refused(machine(words));
@@ -43,15 +43,18 @@ pub fn line_of(alloc: Global, first: &[u8], words: &[&[u8]]) -> Result<ScriptLin
     refused(board_line(first, words))
 }
 
-fn board_line(first: &[u8], words: &[&[u8]]) -> Result<ScriptLine, LineWhy>
+fn board_line(first: &[u8], words: &[&[u8]]) -> Result<LaneLine, LineWhy>
     ensures answer { result ≡ line_among board_forms first.now (map (λ word. word.now) words.now) }
-    ensures within { IfOk result IsWithin }
+    ensures within { IfOk result IsLaneWithin }
 {
     if is_word(first, b"remove") {
         return remove(words);
     }
     if is_word(first, b"replace") {
         return replace(words);
+    }
+    if is_word(first, b"shift") {
+        return shift(words);
     }
     if is_word(first, b"mark") {
         return mark(words);
@@ -68,9 +71,9 @@ fn board_line(first: &[u8], words: &[&[u8]]) -> Result<ScriptLine, LineWhy>
     link_line(first, words)
 }
 
-fn link_line(first: &[u8], words: &[&[u8]]) -> Result<ScriptLine, LineWhy>
+fn link_line(first: &[u8], words: &[&[u8]]) -> Result<LaneLine, LineWhy>
     ensures answer { result ≡ line_among link_forms first.now (map (λ word. word.now) words.now) }
-    ensures within { IfOk result IsWithin }
+    ensures within { IfOk result IsLaneWithin }
 {
     if is_word(first, b"connect") {
         return connect(words);
@@ -96,9 +99,9 @@ fn link_line(first: &[u8], words: &[&[u8]]) -> Result<ScriptLine, LineWhy>
     machine_line(first, words)
 }
 
-fn machine_line(first: &[u8], words: &[&[u8]]) -> Result<ScriptLine, LineWhy>
+fn machine_line(first: &[u8], words: &[&[u8]]) -> Result<LaneLine, LineWhy>
     ensures answer { result ≡ line_among machine_forms first.now (map (λ word. word.now) words.now) }
-    ensures within { IfOk result IsWithin }
+    ensures within { IfOk result IsLaneWithin }
 {
     if is_word(first, b"shutdown") {
         return shutdown(words);
@@ -121,9 +124,9 @@ fn machine_line(first: &[u8], words: &[&[u8]]) -> Result<ScriptLine, LineWhy>
     floor_line(first, words)
 }
 
-fn floor_line(first: &[u8], words: &[&[u8]]) -> Result<ScriptLine, LineWhy>
+fn floor_line(first: &[u8], words: &[&[u8]]) -> Result<LaneLine, LineWhy>
     ensures answer { result ≡ line_among floor_forms first.now (map (λ word. word.now) words.now) }
-    ensures within { IfOk result IsWithin }
+    ensures within { IfOk result IsLaneWithin }
 {
     if is_word(first, b"sense") {
         return sense(words);
@@ -146,13 +149,16 @@ fn floor_line(first: &[u8], words: &[&[u8]]) -> Result<ScriptLine, LineWhy>
     if is_word(first, b"take") {
         return take(words);
     }
-    report_line(first, words)
+    whole_line(first, words)
 }
 
-fn report_line(first: &[u8], words: &[&[u8]]) -> Result<ScriptLine, LineWhy>
-    ensures answer { result ≡ line_among report_forms first.now (map (λ word. word.now) words.now) }
-    ensures within { IfOk result IsWithin }
+fn whole_line(first: &[u8], words: &[&[u8]]) -> Result<LaneLine, LineWhy>
+    ensures answer { result ≡ line_among whole_forms first.now (map (λ word. word.now) words.now) }
+    ensures within { IfOk result IsLaneWithin }
 {
+    if is_word(first, b"lanes") {
+        return lanes(words);
+    }
     if is_word(first, b"show") {
         return show(words);
     }

@@ -1,10 +1,10 @@
 //! The words of a line, and the values that they spell.
 
-ghost use Rattle.std.specs.Prelude.{◌≡◌, IfOk, map};
+ghost use Rattle.std.specs.Prelude.{◌≡◌, ◌≤◌, ◌<◌, ◌==◌, IfOk, IfSome, length, map, position};
 ghost use Rattle.std.specs.List.{list_all};
 ghost use Rattle.std.specs.Str.{bytes_eq};
 ghost use Rattle.line_script.specs.Ranges.{IsBetween};
-ghost use Rattle.line_script.specs.Words.{is_blank, is_text_byte, number_in, words_of, ReadsToken, identity_of, literal_of, side_of, quality_of, event_of, segment_line_of, switch_of, asked_by_of, question_of, Reads, barcode_in, barcode_of};
+ghost use Rattle.line_script.specs.Words.{is_blank, is_text_byte, number_in, place_from, place_of, words_of, ReadsToken, identity_of, literal_of, side_of, quality_of, event_of, segment_line_of, switch_of, asked_by_of, question_of, Reads, barcode_in, barcode_of};
 
 use crate::line::{LineError, LineWhy};
 use board_record::BoardId;
@@ -18,6 +18,16 @@ const MOST_TOKEN_BYTES: usize = 64;
 
 /// The most digits of a number.
 const MOST_DIGITS: usize = 15;
+
+/// The most lanes of a line.
+pub const MOST_LANES: u64 = 4;
+
+/// A machine or a gap by its number, and a lane of the line.
+#[derive(Clone, Copy)]
+pub struct Place {
+    pub number: u32,
+    pub lane: u32,
+}
 
 /// What a work order is asked for by, where a text is enough to say it.
 #[derive(Clone, Copy)]
@@ -77,6 +87,45 @@ pub fn number(word: &[u8], low: u64, high: u64) -> Result<u64, LineWhy>
         return Err(LineWhy::BadNumber);
     }
     Ok(value)
+}
+
+/// A place word: `m` is number m on lane 1, `m.l` number m on lane l of 1 to 4. `BadNumber` where
+/// the word is none, or its number is above `most`.
+pub fn place_word(word: &[u8], most: u64) -> Result<Place, LineWhy>
+    requires { most ≤ 64 }
+    ensures value { result ≡ place_of most word.now }
+    ensures within { IfOk result (λ place. IsBetween 1 4 place.lane × IsBetween 1 most place.number) }
+{
+    match point_in(word) {
+        None => Ok(Place {
+            number: number(word, 1, most)? as u32,
+            lane: 1,
+        }),
+        Some(point) => place_with(&word[..point], &word[point + 1..], most),
+    }
+}
+
+/// The place of a number and a lane.
+fn place_with(spelled_number: &[u8], spelled_lane: &[u8], most: u64) -> Result<Place, LineWhy>
+    requires { most ≤ 64 }
+    ensures value { result
+        ≡ place_from (number_in 1 most spelled_number.now) (number_in 1 4 spelled_lane.now) }
+    ensures within { IfOk result (λ place. IsBetween 1 4 place.lane × IsBetween 1 most place.number) }
+{
+    let first = number(spelled_number, 1, most)? as u32;
+    let lane = number(spelled_lane, 1, MOST_LANES)? as u32;
+    Ok(Place {
+        number: first,
+        lane,
+    })
+}
+
+/// Where the first point of a word stands.
+fn point_in(word: &[u8]) -> Option<usize>
+    ensures place { result ≡ position (λ b. b == 46) word.now }
+    ensures inside { IfSome result (λ place. place < length word.now) }
+{
+    word.iter().position(|byte| *byte == b'.')
 }
 
 /// Whether a word is this one.

@@ -3,7 +3,7 @@
 use case_text::spell;
 use hermes_vertical::Question;
 use line_base::{Quality, SensorEvent, Side};
-use line_script::{LineError, ScriptLine, read_line};
+use line_script::{LaneLine, LineError, ScriptLine, read_line};
 use smema_bridge::SegmentLine;
 use std::alloc::Global;
 use std::io;
@@ -14,13 +14,31 @@ pub fn tell(alloc: Global, case: &str, to: &mut Vec<u8>) -> io::Result<()> {
     let mut line = Vec::new(alloc);
     spell(case, &mut line)?;
     match read_line(alloc, line.as_slice()) {
-        Ok(line) => tell_line(&line, to),
+        Ok(line) => tell_lane_line(&line, to),
         Err(LineError::Refused(why)) => write!(to, "refused: {why}"),
         Err(LineError::Memory) => write!(to, "out of memory"),
     }
 }
 
-/// Appends what a line asks for.
+/// Appends what a line asks for, behind its lane where that isn't the first.
+fn tell_lane_line(line: &LaneLine, to: &mut Vec<u8>) -> io::Result<()> {
+    match line {
+        LaneLine::On { lane: 1, line } => tell_line(line, to),
+        LaneLine::On { lane, line } => {
+            write!(to, "lane {lane}: ")?;
+            tell_line(line, to)
+        }
+        LaneLine::Lanes { count } => write!(to, "lanes {count}"),
+        LaneLine::Shift {
+            machine,
+            from,
+            to: taking,
+            id,
+        } => write!(to, "shift {machine} from {from} to {taking} {id}"),
+    }
+}
+
+/// Appends what a line asks for on its lane.
 fn tell_line(line: &ScriptLine, to: &mut Vec<u8>) -> io::Result<()> {
     match line {
         ScriptLine::Blank => write!(to, "nothing"),

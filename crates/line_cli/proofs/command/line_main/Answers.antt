@@ -10,13 +10,28 @@ use Rattle.line_cli.proofs.ReadFronts.{has_one_read_text}
 use Rattle.line_cli.proofs.command.line_main.Goals as goal
 
 pub returns-clause-report : goal.returns-clause-report
-returns-clause-report g c = has_one_report c.one_report.ensures
+returns-clause-report g c = has_one_report c.each_script_on_lanes_has_a_run.ensures c.one_report.ensures
 
 pub returns-clause-reading : goal.returns-clause-reading
 returns-clause-reading g c = has_one_read_text c.read_once.ensures
 
 pub returns-clause-made : goal.returns-clause-made
-returns-clause-made g c = has_one_make_text c.one_make_text.ensures
+returns-clause-made g c = has_one_make_text c.each_script_on_lanes_has_a_run.ensures c.one_make_text.ensures
+
+pub returns-clause-lanes : goal.returns-clause-lanes
+returns-clause-lanes g c = c.each_lane_is_run.ensures.lanes
+
+pub returns-clause-lane_fronts : goal.returns-clause-lane_fronts
+returns-clause-lane_fronts g c = c.each_lane_is_run.ensures.fronts
+
+pub returns-clause-lane_standing : goal.returns-clause-lane_standing
+returns-clause-lane_standing g c = c.each_lane_is_run.ensures.standing
+
+pub returns-clause-one_lane : goal.returns-clause-one_lane
+returns-clause-one_lane g c = c.each_lane_is_run.ensures.one_lane
+
+pub returns-clause-alone : goal.returns-clause-alone
+returns-clause-alone g c = c.a_script_of_one_lane_is_a_track.ensures
 
 pub returns-clause-ids : goal.returns-clause-ids
 returns-clause-ids g c = ids_stay
@@ -34,16 +49,16 @@ pub returns-clause-ledger : goal.returns-clause-ledger
 returns-clause-ledger g c = c.the_ledger_follows_the_report.ensures
 
 pub returns-clause-tells : goal.returns-clause-tells
-returns-clause-tells g c = reports_tell c.a_report_tells_its_ledger.ensures
+returns-clause-tells g c = reports_tell c.a_report_tells_the_ledger_of_each_lane.ensures
 
 pub returns-clause-told : goal.returns-clause-told
-returns-clause-told g c = reports_stand c.a_report_tells_its_standings.ensures
+returns-clause-told g c = reports_stand c.a_report_tells_the_standings_of_each_lane.ensures
 
 pub returns-clause-starts : goal.returns-clause-starts
-returns-clause-starts g c = reports_start c.a_report_tells_its_starts.ensures
+returns-clause-starts g c = reports_start c.a_report_tells_the_starts_of_each_lane.ensures
 
 pub returns-clause-fronts : goal.returns-clause-fronts
-returns-clause-fronts g c = fronts_tell c.a_front_tells_its_ledger.ensures
+returns-clause-fronts g c = fronts_tell c.a_front_tells_the_ledger_of_each_lane.ensures
 
 pub returns-clause-order : goal.returns-clause-order
 returns-clause-order g c = c.boards_go_in_the_order_in_which_they_came.ensures

@@ -15,7 +15,7 @@ returns-in-Err-clause-runs g c =
     let ends = rw c.as_slice.ensures.value at c.end_refused.ensures.ends in
     let long : length (take c.in-Bytes.count room) ≡ c.in-Bytes.count = length-take-le c.in-Bytes.count room c.in-Bytes.ensures.gives.1 in
     let short : length (take c.in-Bytes.count room) ≤ 65536 = omega (arith, long, c.in-Bytes.ensures.gives.1, c.loop-count.invariant.small, c.pull.auto.room) in
-    runs-refused c.in-Err.error (g.S.Source.left c.args.script.now) (g.S.Source.left c.loop-count.script) (g.S.Source.left c.pull.new.self) (g.K.Sink.contents c.args.report.now) (g.K.Sink.contents c.loop-count.report) (g.K.Sink.contents c.end_refused.new.report) (g.K.Sink.faults c.loop-count.report) (g.K.Sink.faults c.end_refused.new.report) c.loop-count.reader c.take_piece.new.self (take c.in-Bytes.count room) c.loop-count.text.items c.take_piece.new.to.items c.end_refused.result c.loop-count.invariant.waits short c.loop-count.invariant.going c.in-Bytes.ensures.gives.2 takes ends
+    runs-refused (record { runs = c.each_script_on_lanes_has_a_run.ensures; once = c.each_run_tells_once.ensures; remembers = c.each_run_remembers_its_lies.ensures }) c.in-Err.error (g.S.Source.left c.args.script.now) (g.S.Source.left c.loop-count.script) (g.S.Source.left c.pull.new.self) (g.K.Sink.contents c.args.report.now) (g.K.Sink.contents c.loop-count.report) (g.K.Sink.contents c.end_refused.new.report) (g.K.Sink.faults c.loop-count.report) (g.K.Sink.faults c.end_refused.new.report) c.loop-count.reader c.take_piece.new.self (take c.in-Bytes.count room) c.loop-count.text.items c.take_piece.new.to.items c.end_refused.result c.loop-count.invariant.waits short c.loop-count.invariant.going c.in-Bytes.ensures.gives.2 takes ends
 
 pub returns-in-Err-clause-causes : goal.returns-in-Err-clause-causes
 returns-in-Err-clause-causes g c =
@@ -26,7 +26,7 @@ returns-in-Failed-push_full-clause-runs g c =
     let room = c.pull.new.room in
     let takes = rw c.front.ensures at c.in_default.ensures.takes in
     let going = goes-piece (g.S.Source.left c.args.script.now) (g.S.Source.left c.loop-count.script) (g.S.Source.left c.pull.new.self) (g.K.Sink.contents c.args.report.now) (g.K.Sink.contents c.loop-count.report) c.loop-count.reader c.take_piece.new.self (take c.in-Bytes.count room) c.loop-count.text.items c.take_piece.new.to.items c.loop-count.invariant.going c.in-Bytes.ensures.gives.2 takes in
-    runs-part (g.S.Source.left c.args.script.now) (g.S.Source.left c.pull.new.self) (g.S.Source.left c.pull.new.self) (g.K.Sink.contents c.args.report.now) (g.K.Sink.contents c.loop-count.report) (g.K.Sink.contents c.push_full.new.report) c.take_piece.new.self c.take_piece.new.to.items going c.in-Failed-push_full.ensures.2
+    runs-part (record { runs = c.each_script_on_lanes_has_a_run.ensures; once = c.each_run_tells_once.ensures; remembers = c.each_run_remembers_its_lies.ensures }) (g.S.Source.left c.args.script.now) (g.S.Source.left c.pull.new.self) (g.S.Source.left c.pull.new.self) (g.K.Sink.contents c.args.report.now) (g.K.Sink.contents c.loop-count.report) (g.K.Sink.contents c.push_full.new.report) c.take_piece.new.self c.take_piece.new.to.items going c.in-Failed-push_full.ensures.2
 
 pub returns-in-Failed-push_full-clause-causes : goal.returns-in-Failed-push_full-clause-causes
 returns-in-Failed-push_full-clause-causes g c =
@@ -62,7 +62,7 @@ loop-count-preserved g c =
 pub returns-in-Err-finish-clause-runs : goal.returns-in-Err-finish-clause-runs
 returns-in-Err-finish-clause-runs g c =
     let ends = rw c.as_slice-in-Err-finish.ensures.value at c.end_refused-in-Err-finish.ensures.ends in
-    runs-end_refused c.in-Err-finish.error (g.S.Source.left c.args.script.now) (g.S.Source.left c.loop-count.script) (g.S.Source.left c.pull.new.self) (g.K.Sink.contents c.args.report.now) (g.K.Sink.contents c.loop-count.report) (g.K.Sink.contents c.end_refused-in-Err-finish.new.report) (g.K.Sink.faults c.loop-count.report) (g.K.Sink.faults c.end_refused-in-Err-finish.new.report) c.loop-count.reader c.finish.new.self c.loop-count.text.items c.finish.new.to.items c.end_refused-in-Err-finish.result c.loop-count.invariant.waits c.loop-count.invariant.going c.in-End.ensures.gives.0 c.in-End.ensures.gives.1 c.in-Err-finish.ensures.finishes ends
+    runs-end_refused (record { runs = c.each_script_on_lanes_has_a_run.ensures; once = c.each_run_tells_once.ensures; remembers = c.each_run_remembers_its_lies.ensures }) c.in-Err-finish.error (g.S.Source.left c.args.script.now) (g.S.Source.left c.loop-count.script) (g.S.Source.left c.pull.new.self) (g.K.Sink.contents c.args.report.now) (g.K.Sink.contents c.loop-count.report) (g.K.Sink.contents c.end_refused-in-Err-finish.new.report) (g.K.Sink.faults c.loop-count.report) (g.K.Sink.faults c.end_refused-in-Err-finish.new.report) c.loop-count.reader c.finish.new.self c.loop-count.text.items c.finish.new.to.items c.end_refused-in-Err-finish.result c.loop-count.invariant.waits c.loop-count.invariant.going c.in-End.ensures.gives.0 c.in-End.ensures.gives.1 c.in-Err-finish.ensures.finishes ends
 
 pub returns-in-Err-finish-clause-causes : goal.returns-in-Err-finish-clause-causes
 returns-in-Err-finish-clause-causes g c =
@@ -71,7 +71,7 @@ returns-in-Err-finish-clause-causes g c =
 pub returns-in-End-clause-runs : goal.returns-in-End-clause-runs
 returns-in-End-clause-runs g c =
     let ends = rw c.as_slice-in-End.ensures.value at c.end_whole.ensures.ends in
-    runs-whole c.is_unvouched.result (g.S.Source.left c.args.script.now) (g.S.Source.left c.loop-count.script) (g.S.Source.left c.pull.new.self) (g.K.Sink.contents c.args.report.now) (g.K.Sink.contents c.loop-count.report) (g.K.Sink.contents c.end_whole.new.report) (g.K.Sink.faults c.loop-count.report) (g.K.Sink.faults c.end_whole.new.report) c.loop-count.reader c.finish.new.self c.loop-count.text.items c.finish.new.to.items c.end_whole.result c.loop-count.invariant.going c.in-End.ensures.gives.0 c.in-End.ensures.gives.1 c.in_default-finish.ensures.finishes c.is_unvouched.ensures ends
+    runs-whole (record { runs = c.each_script_on_lanes_has_a_run.ensures; once = c.each_run_tells_once.ensures; remembers = c.each_run_remembers_its_lies.ensures }) c.is_unvouched.result (g.S.Source.left c.args.script.now) (g.S.Source.left c.loop-count.script) (g.S.Source.left c.pull.new.self) (g.K.Sink.contents c.args.report.now) (g.K.Sink.contents c.loop-count.report) (g.K.Sink.contents c.end_whole.new.report) (g.K.Sink.faults c.loop-count.report) (g.K.Sink.faults c.end_whole.new.report) c.loop-count.reader c.finish.new.self c.loop-count.text.items c.finish.new.to.items c.end_whole.result c.loop-count.invariant.going c.in-End.ensures.gives.0 c.in-End.ensures.gives.1 c.in_default-finish.ensures.finishes c.is_unvouched.ensures ends
 
 pub returns-in-End-clause-causes : goal.returns-in-End-clause-causes
 returns-in-End-clause-causes g c =
@@ -80,7 +80,7 @@ returns-in-End-clause-causes g c =
 pub returns-in-Failed-clause-runs : goal.returns-in-Failed-clause-runs
 returns-in-Failed-clause-runs g c =
     let pushes = rw c.as_slice-in-Failed.ensures.value at c.push_all-pushed.ensures in
-    runs-read_fault c.push_all-pushed.result (g.S.Source.left c.args.script.now) (g.S.Source.left c.loop-count.script) (g.S.Source.left c.pull.new.self) (g.K.Sink.contents c.args.report.now) (g.K.Sink.contents c.loop-count.report) (g.K.Sink.contents c.push_all-pushed.new.sink) (g.K.Sink.faults c.loop-count.report) (g.K.Sink.faults c.push_all-pushed.new.sink) c.loop-count.reader c.loop-count.text.items c.loop-count.invariant.going pushes
+    runs-read_fault (record { runs = c.each_script_on_lanes_has_a_run.ensures; once = c.each_run_tells_once.ensures; remembers = c.each_run_remembers_its_lies.ensures }) c.push_all-pushed.result (g.S.Source.left c.args.script.now) (g.S.Source.left c.loop-count.script) (g.S.Source.left c.pull.new.self) (g.K.Sink.contents c.args.report.now) (g.K.Sink.contents c.loop-count.report) (g.K.Sink.contents c.push_all-pushed.new.sink) (g.K.Sink.faults c.loop-count.report) (g.K.Sink.faults c.push_all-pushed.new.sink) c.loop-count.reader c.loop-count.text.items c.loop-count.invariant.going pushes
 
 pub returns-in-Failed-clause-causes : goal.returns-in-Failed-clause-causes
 returns-in-Failed-clause-causes g c =

@@ -1,4 +1,4 @@
-use Rattle.std.proofs.Common.{rules}
+use Rattle.std.proofs.Common.{Ok, ap, rules, ◌∙◌}
 use Rattle.line_script.specs.declared.line.ScriptLine.TheVariants as lines
 use Rattle.line_script.proofs.forms.bridge.Goals as goal
 
@@ -6,4 +6,4 @@ pub returns-in_err-room-clause-answer : goal.returns-in_err-room-clause-answer
 returns-in_err-room-clause-answer c = let refused = c.in_err-room.ensures.answer lines.Bridge in search rules
 
 pub returns-clause-answer : goal.returns-clause-answer
-returns-clause-answer c = c.in_ok-room.ensures.answer lines.Bridge
+returns-clause-answer c = ap Ok c.on_lane.ensures ∙ c.in_ok-room.ensures.answer lines.Bridge

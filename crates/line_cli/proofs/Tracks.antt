@@ -1,0 +1,26 @@
+-- On each lane the run of a script that is read is the run of a track.
+use Rattle.std.proofs.Common.{ℕ, List, arith}
+use Rattle.line_lanes.specs.Along.{EachFrontIsATrack, EachLaneIsATrack, EachRecordIsOnOneLane, OneStandingOnLanes}
+use Rattle.line_lanes.specs.Lanes.{no_lanes}
+use Rattle.line_lanes.specs.Parts.{IsLaneRun, IsShort, LanePoint, all_points}
+use Rattle.line_lanes.proofs.ScriptRuns.{run-short}
+use Rattle.line_cli.specs.Script.{script_of}
+use Rattle.line_cli.specs.Tracks.{EachFrontIsRun, EachLaneIsRun, EachRecordHasOneLane, EachRecordStandsOnLanes}
+use Rattle.line_cli.proofs.FitScript.{scripts_are_fit}
+
+short : (bytes : List ℕ) (done : List (List LanePoint)) → IsLaneRun no_lanes (script_of bytes).lines done → IsShort no_lanes (all_points done)
+short bytes done run =
+    let fit = scripts_are_fit bytes in
+    run-short no_lanes (script_of bytes).lines done run (omega (arith, fit.few))
+
+pub lanes_are_tracks : EachLaneIsATrack → EachLaneIsRun
+lanes_are_tracks law bytes done lane some run = law (script_of bytes).lines done lane some (scripts_are_fit bytes).fit (short bytes done run) run
+
+pub fronts_are_tracks : EachFrontIsATrack → EachFrontIsRun
+fronts_are_tracks law bytes done n lane some run honest = law (script_of bytes).lines done n lane some (scripts_are_fit bytes).fit (short bytes done run) run honest
+
+pub records_stand : OneStandingOnLanes → EachRecordStandsOnLanes
+records_stand law bytes done n run honest = law (script_of bytes).lines done n (scripts_are_fit bytes).fit (short bytes done run) run honest
+
+pub records_on_one : EachRecordIsOnOneLane → EachRecordHasOneLane
+records_on_one law bytes done n run honest = law (script_of bytes).lines done n (scripts_are_fit bytes).fit (short bytes done run) run honest

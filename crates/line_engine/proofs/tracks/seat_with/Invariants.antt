@@ -1,0 +1,6 @@
+use Rattle.std.proofs.Common.{◌≡◌, ◌+◌, drop}
+use Rattle.line_engine.specs.Seats.{both, seat_listed}
+use Rattle.line_engine.proofs.tracks.seat_with.Given as goal
+
+abbrev pub invariant-loop-track : goal.invariant-loop-track
+invariant-loop-track l = (l.lane ≡ l.track-index + 1) × (both l.seat (seat_listed l.id (l.lane + 1) (drop l.track-index l.others)) ≡ both l.fn.first (seat_listed l.id 2 l.others))
