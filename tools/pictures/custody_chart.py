@@ -8,6 +8,8 @@ from forms import LOG, MERGED, beside
 from links import place_order
 
 COLUMNS, WIDE, LABEL = 20, 44, 90
+# of several lanes, where `1.2+2.2` stands in a column
+LANE_COLUMNS, LANE_WIDE = 16, 56
 MOST_UNCHANGED = 12
 TOP = 22
 
@@ -23,6 +25,7 @@ class CustodyChart:
     def __init__(self, read, custody, short, columns):
         self.read, self.custody, self.short, self.machines = read, custody, short, columns
         self.columns = columns_of(custody, read)
+        self.most, self.wide = (COLUMNS, WIDE) if len(columns.lanes) == 1 else (LANE_COLUMNS, LANE_WIDE)
         self.is_every = len(self.columns) == len(custody.groups)
         self.numbers = [group.number for group in self.columns]
         self.order = {id: number for number, id in enumerate(custody.rows)}
@@ -58,10 +61,10 @@ class CustodyChart:
 
     def panels(self):
         """Each panel's first column, what is done in it by id, the ids that don't change, or how many they are."""
-        starts = range(0, len(self.columns), COLUMNS)
+        starts = range(0, len(self.columns), self.most)
         changing = [dict() for _ in starts]
         for row in self.custody.rows.values():
-            panel = lambda group: changing[min(self.column(group), len(self.columns) - 1) // COLUMNS].setdefault(row.id, [])
+            panel = lambda group: changing[min(self.column(group), len(self.columns) - 1) // self.most].setdefault(row.id, [])
             for stay in row.stays:
                 panel(stay.begins)
             for group, word, line in row.deeds:
@@ -77,7 +80,7 @@ class CustodyChart:
             quiet = sum(counts.values())
             same = [id for id in standing if id not in changing[number]] if quiet <= MOST_UNCHANGED else []
             yield start, changing[number], same, self.unchanged(quiet, counts) if quiet > MOST_UNCHANGED else ""
-            end = self.numbers[min(start + COLUMNS, len(self.numbers)) - 1]
+            end = self.numbers[min(start + self.most, len(self.numbers)) - 1]
             for id in changing[number]:
                 row, at = self.custody.rows[id], bisect_right(self.begins[id], end) - 1
                 now = row.stays[at] if at >= 0 else None
@@ -102,7 +105,7 @@ class CustodyChart:
         return [self.panel(*panel) for panel in self.panels()] if self.columns and self.custody.rows else []
 
     def panel(self, start, changing, same, rest):
-        count = min(COLUMNS, len(self.columns) - start)
+        count = min(self.most, len(self.columns) - start)
         rows = [self.custody.rows[id] for id in same] + [self.custody.rows[id] for id in changing]
         rows.sort(key=lambda row: self.order[row.id])
         parts, y = [], TOP
@@ -113,28 +116,28 @@ class CustodyChart:
         if rest:
             parts.append(f'<text class="tr" x="4" y="{y + 11}">{escape(rest)}</text>')
             y += 16
-        width, high = LABEL + count * WIDE + 2, y + 4
+        width, high = LABEL + count * self.wide + 2, y + 4
         return self.frame(start, count, width, high, "".join(parts))
 
     def frame(self, start, count, width, high, rows):
         heads, grid = [], []
         for number in range(count):
             group = self.columns[start + number]
-            x = LABEL + number * WIDE
-            heads.append(f'<text class="colhead" data-l="{group.first}" x="{x + WIDE / 2:g}" y="14" text-anchor="middle">{key_text(group.key)}</text>')
+            x = LABEL + number * self.wide
+            heads.append(f'<text class="colhead" data-l="{group.first}" x="{x + self.wide / 2:g}" y="14" text-anchor="middle">{key_text(group.key)}</text>')
             grid.append(f"M{x} {TOP - 4}V{high - 4}")
-        under = f'<path class="grid" d="{"".join(grid)}M{LABEL + count * WIDE} {TOP - 4}V{high - 4}"/>'
+        under = f'<path class="grid" d="{"".join(grid)}M{LABEL + count * self.wide} {TOP - 4}V{high - 4}"/>'
         if self.unvouched is not None:
             column = self.column(self.unvouched) - start
             if column < count:
-                x = LABEL + max(column, 0) * WIDE
-                under += f'<rect class="unsure" x="{x}" y="{TOP - 4}" width="{LABEL + count * WIDE - x}" height="{high - TOP}"/>'
+                x = LABEL + max(column, 0) * self.wide
+                under += f'<rect class="unsure" x="{x}" y="{TOP - 4}" width="{LABEL + count * self.wide - x}" height="{high - TOP}"/>'
                 if column >= 0:
                     under += f'<path class="rule" d="M{x - 2} {TOP - 6}V{high - 2}M{x + 2} {TOP - 6}V{high - 2}"/>'
         first, last = self.columns[start], self.columns[start + count - 1]
         title = f"Who has each record, {self.named(first)} to {self.named(last)}"
         return (f'<svg class="stave" role="img" aria-label="{escape(title)}" aria-describedby="ways" width="{width}" height="{high}" viewBox="0 0 {width} {high}" '
-                f'data-x="{LABEL}" data-w="{WIDE}" data-c="{" ".join(str(group.first) for group in self.columns[start:start + count])}">'
+                f'data-x="{LABEL}" data-w="{self.wide}" data-c="{" ".join(str(group.first) for group in self.columns[start:start + count])}">'
                 f"<title>{escape(title)}</title>{under}{''.join(heads)}{rows}</svg>")
 
     def named(self, group):
@@ -155,9 +158,9 @@ class CustodyChart:
         parts = [f'<g class="row" data-i="{row.id}"><text class="id" x="4" y="{top + 12}"><title>{row.id}</title>{escape(self.short[row.id])}</text>']
         for column, said in words.items():
             for number, (text, line, why) in enumerate(said):
-                x, under = LABEL + column * WIDE + 2, top - 3 - 10 * (len(said) - 1 - number)
+                x, under = LABEL + column * self.wide + 2, top - 3 - 10 * (len(said) - 1 - number)
                 name, told = ("deedw bad", f"<title>{escape(why)}</title>") if why else ("deedw", "")
-                plate = f'<rect class="badplate" x="{x - 1}" y="{under - 8.5}" width="{WIDE - 1}" height="10.5"/>' if why else ""
+                plate = f'<rect class="badplate" x="{x - 1}" y="{under - 8.5}" width="{self.wide - 1}" height="10.5"/>' if why else ""
                 parts.append(f'{plate}<text class="{name}" data-l="{line.number}" x="{x}" y="{under}">{told}{escape(text)}</text>')
         for stay in row.stays[max(bisect_right(self.begins[row.id], first) - 1, 0):bisect_right(self.begins[row.id], last)]:
             parts.append(self.bar(stay, start, count, top))
@@ -169,16 +172,16 @@ class CustodyChart:
         end = min(self.column(stay.ends) - start, count) if stay.ends is not None else count
         if end <= first:
             return ""
-        x = LABEL + first * WIDE
+        x = LABEL + first * self.wide
         if stay.standing == (GONE,) and stay.told is None:
             if self.column(stay.begins) < start:
                 return ""
             return f'<path class="end" d="M{x + 1} {top - 1}v18"/><text class="tr" x="{x + 5}" y="{top + 11}">{"not here" if self.read.kind == LOG else "gone"}</text>'
         look, text, name = self.look(stay)
-        wide = (end - first) * WIDE
+        wide = (end - first) * self.wide
         title = words_of(stay, self.read.kind)
         line = self.custody.groups[stay.begins].first
-        if wide > 2 * WIDE and is_alarm(stay):
+        if wide > 2 * self.wide and is_alarm(stay):
             text = title
         spare = max(int((wide - 8) / 5.2), 4)
         text = text if len(text) <= spare else text[:spare - 1] + "\u2026"
@@ -189,7 +192,7 @@ class CustodyChart:
 
     def plate(self, text, x, top):
         """What a text stands on where the bar is striped."""
-        return f'<rect class="plate" x="{x + 1.5}" y="{top + 2}" width="{min(6 * len(text) + 6, WIDE - 3)}" height="12" rx="2"/>'
+        return f'<rect class="plate" x="{x + 1.5}" y="{top + 2}" width="{min(6 * len(text) + 6, self.wide - 3)}" height="12" rx="2"/>'
 
     def in_words(self):
         """Each record's way, in words."""

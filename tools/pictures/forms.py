@@ -25,19 +25,21 @@ EXIT_DEEDS = ("opens", "refuses", "leaves", "returns", "loses")
 ENTRY_DEEDS = ("starts", "settles", "drops")
 LEVELS = ("ready", "available", "failed")
 SIGNALS = ("entry-available", "entry-failed", "exit-ready")
+LANES = ("1", "2", "3", "4")
 
-# what stands behind the first word, in turn: m a machine, k a gap, s a side, e an event at that side, i an id,
-# q a quality, n a number, o on or off, w a message, t the rest; another word stands for itself or its choices
+# what stands behind the first word, in turn: m a machine, p a machine's place on a lane, l another lane of that machine,
+# k a gap on a lane, s a side, e an event at that side, i an id, q a quality, n a number, o on or off, w a message,
+# t the rest; another word stands for itself or its choices
 FORMS = {
-    "insert": "m i", "remove": "m i", "replace": "m i i", "mark": "m i q", "hold": "m s", "go": "m s",
-    "level": ("m", LEVELS, "o"), "signals": ("m", SIGNALS, "o"), "connects": "m", "notices": "m s", "closes": "m s",
-    "reads": "m s e", "hears": "m s w", "sends": "m s w", "breach": "m s t", "tells": ("m", ("arrived", "departed"), "i", "n"),
-    "supervise": "m o", "asks": "m n", "answered": "m n t", "sub": "m i n", "drive": "m s o",
+    "insert": "p i", "remove": "p i", "replace": "p i i", "mark": "p i q", "hold": "p s", "go": "p s",
+    "level": ("p", LEVELS, "o"), "signals": ("p", SIGNALS, "o"), "connects": "p", "notices": "p s", "closes": "p s",
+    "reads": "p s e", "hears": "p s w", "sends": "p s w", "breach": "p s t", "tells": ("m", ("arrived", "departed"), "i", "n"),
+    "supervise": "m o", "asks": "m n", "answered": "m n t", "sub": "p i n", "drive": "p s o",
     **dict.fromkeys(EXIT_DEEDS + ENTRY_DEEDS, "k i"),
 }
 OF_REPORTS = {
-    "machine": "m n", "bridge": "m n", "lanes": "n", "shift": "m m i", "cut": "k", "spoils": "m s", "move": ("k", MOVES),
-    "lie": "m s e", "unseen": "s m", "unvouched": "", "stop": "m", "with": "m i", "between": "k i", "gone": "i",
+    "machine": "m n", "bridge": "m n", "lanes": (LANES,), "shift": "p l i", "cut": "k", "spoils": "p s", "move": ("k", MOVES),
+    "lie": "p s e", "unseen": "s p", "unvouched": "", "stop": "m", "with": "p i", "between": "k i", "gone": "i",
 }
 
 
@@ -118,14 +120,11 @@ class Reader:
             self.forms = {word: form for word, form in self.forms.items() if word != "drive"}
         self.own = None          # the number of the node whose log it is
 
-    def machine(self, line, word):
+    def machine(self, line, word, has_lane=True):
         if self.kind == REPORT:
-            if not matches(PLACE, word):
+            if not matches(PLACE, word) or "." in word and not has_lane:
                 return "no machine"
-            if line.place is None:
-                line.place = word
-            else:
-                line.rest += (word,)
+            line.place = word
             return None
         if not matches(NODE_NUMBER, word):
             return "no machine"
@@ -133,6 +132,12 @@ class Reader:
             if self.own not in (None, word):
                 return f"another machine than {self.own}"
             self.own = line.place = word
+        return None
+
+    def other_lane(self, line, word):
+        if not matches(PLACE, word) or machine_of(word) != machine_of(line.place) or word == line.place:
+            return f"no other lane of {machine_of(line.place)}"
+        line.rest += (word,)
         return None
 
     def gap(self, line, word):
@@ -148,8 +153,10 @@ class Reader:
 
     def one(self, line, kind, word):
         """Why the word isn't of this kind, or None; what it says goes to the line."""
-        if kind == "m":
-            return self.machine(line, word)
+        if kind in ("m", "p"):
+            return self.machine(line, word, kind == "p")
+        if kind == "l":
+            return self.other_lane(line, word)
         if kind == "k":
             return self.gap(line, word)
         if kind == "i":

@@ -36,6 +36,11 @@ def lines_said(count):
     return many(count, "line")
 
 
+def places_said(columns):
+    """What a place is, where there are several lanes."""
+    return " m.l is machine m on its lane l, and m alone its lane 1." if len(columns.lanes) > 1 else ""
+
+
 def defs(heads):
     """Stripes of two machines' colours, for a record that is in a handover between them; and the titles of the columns."""
     patterns = []
@@ -121,7 +126,9 @@ def summary(read, custody, messages, sequence):
             meanings.BACKWARD: "heard before they were sent"}
     came = ", ".join(f"{fates[fate]} {text}" for fate, text in told.items() if fates[fate])
     machines = len({machine_of(place) for place in sequence.columns.places})
-    return (f"{KINDS[read.kind].capitalize()}: {lines_said(read.count)}, {many(machines, 'machine')}, "
+    said = [int(line.rest[0]) for line in read.lines if line.word == "lanes"]
+    lanes = max(said[-1:] + sequence.columns.lanes)
+    return (f"{KINDS[read.kind].capitalize()}: {lines_said(read.count)}, {many(machines, 'machine')}{f' with {lanes} lanes' if lanes > 1 else ''}, "
             f"{many(len(custody.rows), 'board record')}, {many(len(messages), 'message')}{f' ({came})' if came else ''}.")
 
 
@@ -180,7 +187,7 @@ def page_of(data, title=None, kind=None):
         '<nav aria-label="Parts"><a href="#custody">Who has each record</a> \u00b7 <a href="#sequence">What was said and done</a> \u00b7 <a href="#words">In words</a></nav>',
         notes(read, custody, messages),
         f'<h2 id="custody">Who has each record</h2><p class="soft">{columns}; what is drawn in it is what holds behind it. '
-        "A board m#c is the c-th whose id machine m made; hover it for the id.</p>",
+        f"A board m#c is the c-th whose id machine m made; hover it for the id.{places_said(sequence.columns)}</p>",
         custody_legend(), "".join(staves) or '<p class="soft">No record comes up in this text.</p>',
         '<h2 id="sequence">What was said and done</h2><p class="soft">Each line of the text with its row of the chart. <span class="keys">Click a line or an arrow, or use the keys: '
         "<kbd>\u2193</kbd> <kbd>\u2191</kbd> next and last line, <kbd>Enter</kbd> the other end of its message, <kbd>b</kbd> next line of the same board, "

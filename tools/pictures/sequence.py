@@ -1,4 +1,4 @@
-"""The sequence chart: a column a machine, a row a line of the text.
+"""The sequence chart: a column a machine, or a lane of one, a row a line of the text.
 
 The chart is cut into pieces of `ROWS` rows, so that a browser lays out what is looked at alone. What goes on from
 one piece to the next is drawn in both.
@@ -7,7 +7,7 @@ from html import escape
 
 import links as meanings
 from custody import GONE, told_of
-from forms import LOG, REPORT, beside, machine_of
+from forms import LOG, PLACE, REPORT, beside, lane_of, machine_of, matches
 from links import place_order
 
 ROWS, HIGH = 36, 18
@@ -43,27 +43,49 @@ def number_text(value):
     return f"{value:.1f}".rstrip("0").rstrip(".")
 
 
+def places_of(read, messages):
+    """The machines that a text names, each on each of its lanes that it names, lane by lane."""
+    places = {line.place for line in read.lines if line.word and line.place}
+    gaps = {line.gap for line in read.lines if line.word and line.gap}
+    places |= gaps | ({beside(gap, 1) for gap in gaps} if read.kind == REPORT else set())
+    places |= {line.rest[0] for line in read.lines if line.word == "shift"}
+    # of a lane that isn't the first no line tells that a machine came: both ends of a link are there
+    ends = {end for message in messages if message.link and lane_of(message.link) > 1 for end in (message.link, beside(message.link, 1))}
+    return sorted(places | {end for end in ends if matches(PLACE, end)}, key=place_order) or ["1"]
+
+
 class Columns:
     """Where each machine and each gap stands."""
 
     def __init__(self, read, messages):
-        places = {line.place for line in read.lines if line.word and line.place}
-        gaps = {line.gap for line in read.lines if line.word and line.gap}
-        places |= gaps | ({beside(gap, 1) for gap in gaps} if read.kind == REPORT else set())
-        self.places = sorted(places, key=place_order) or ["1"]
+        self.places = places_of(read, messages)
+        self.lanes = sorted({lane_of(place) for place in self.places})
         count = len(self.places)
         self.is_narrow = count > 12
         self.box = 48 if self.is_narrow else 116 if count < 4 else 100
-        self.gap = 60 if self.is_narrow else max(128, min(300, (900 - count * self.box) // max(count - 1, 1)))
+        gaps = max(count - len(self.lanes), 1)
+        self.gap = 60 if self.is_narrow else max(128, min(300, (900 - count * self.box) // gaps))
         self.reach = min(self.gap, 150)
-        here, linked = set(self.places), {message.link for message in messages}
-        left = beside(self.places[0], -1) in linked
-        right = beside(self.places[-1], 1) not in here and self.places[-1] in linked
+        self.lay(read, {message.link for message in messages})
+        self.lanes_of = {}       # by machine: its places, lane by lane
+        for place in self.places:
+            self.lanes_of.setdefault(machine_of(place), []).append(place)
+        machines = sorted(self.lanes_of)
+        step = len(machines) % COLOURS or 1      # neighbours differ, and so do the lanes of a machine
+        self.colours = {place: (machines.index(machine_of(place)) + step * (lane_of(place) - 1)) % COLOURS for place in self.places}
+
+    def lay(self, read, linked):
+        """The left border of each machine, the walls between the lanes, and the whole width."""
+        self.left, self.walls, at = {}, [], 0
         # room for arrows whose other end isn't here
-        self.margin = self.reach + 10 if left or read.kind == LOG else 16
-        after = self.reach + 10 if right or read.kind == LOG else 16
-        self.left = {place: self.margin + number * (self.box + self.gap) for number, place in enumerate(self.places)}
-        self.width = self.margin + count * self.box + (count - 1) * self.gap + after
+        room = lambda link: self.reach + 10 if link in linked or read.kind == LOG else 16
+        for lane in self.lanes:
+            row = [place for place in self.places if lane_of(place) == lane]
+            self.walls += [at] if at else []
+            at += room(beside(row[0], -1))
+            self.left.update({place: at + number * (self.box + self.gap) for number, place in enumerate(row)})
+            at = self.right(row[-1]) + room(row[-1])
+        self.width = at
 
     def right(self, place):
         return self.left[place] + self.box
@@ -88,7 +110,7 @@ class Columns:
         return self.left[place] if side == "in" else self.right(place)
 
     def colour(self, place):
-        return self.places.index(place) % COLOURS if place in self.left else 0
+        return self.colours.get(place, 0)
 
 
 class Sequence:
@@ -123,9 +145,9 @@ class Sequence:
         anchor = "" if anchor == "start" else f' text-anchor="{anchor}"'
         self.put("over", line, f'<text class="{name}" x="{number_text(x)}" y="{number_text(self.local(line) + dy)}"{anchor}>{escape(text)}</text>')
 
-    def inside(self, line, text, side=None, name="t"):
+    def inside(self, line, text, side=None, name="t", place=None):
         """A label in a machine's column, at a side of it or in its middle."""
-        x, name = self.columns.left[line.place], name + " nb"
+        x, name = self.columns.left[place or line.place], name + " nb"
         if side == "in":
             self.label(line, x + 9, text, name=name)
         elif side == "out":
@@ -297,6 +319,12 @@ class Sequence:
         for (number, name), parts in self.pillars.items():
             self.pieces[number]["under"].append(f'<path class="{name}" d="{"".join(parts)}"/>')
 
+    def board(self, line, middle, is_back):
+        """A board, and which way it goes."""
+        turn = "h-7m3 -3l-3 3l3 3" if is_back else "h7m-3 -3l3 3l-3 3"
+        self.put("over", line, f'<rect class="pcb" x="{number_text(middle - 9)}" y="{self.local(line) - 6}" width="18" height="12" rx="2"/>'
+                 f'<path class="pcbway" d="M{number_text(middle + 3.5 if is_back else middle - 3.5)} {self.local(line)}{turn}"/>')
+
     def draw_boards(self):
         """Where the board in each gap lies, from its moves."""
         lying = {}
@@ -322,9 +350,7 @@ class Sequence:
             if word == "take":
                 self.put("over", line, f'<path class="cross big" d="M{number_text(middle - 5)} {self.local(line) - 5}l10 10m0 -10l-10 10"/>')
             else:
-                turn = "h7m-3 -3l3 3l-3 3" if word != "back" else "h-7m3 -3l-3 3l3 3"
-                self.put("over", line, f'<rect class="pcb" x="{number_text(middle - 9)}" y="{self.local(line) - 6}" width="18" height="12" rx="2"/>'
-                         f'<path class="pcbway" d="M{number_text(middle - 3.5 if word != "back" else middle + 3.5)} {self.local(line)}{turn}"/>')
+                self.board(line, middle, word == "back")
             if word in ("in", "hand-in") and beside(line.gap, 1) in self.columns.left:
                 self.label(line, right + 9, f"board: {word}", name="tb nb")
             else:
@@ -376,10 +402,11 @@ class Sequence:
     on_opens = on_refuses = on_leaves = on_returns = on_loses = on_starts = on_settles = on_drops = deed
 
     def on_machine(self, line):
-        x = self.columns.left[line.place]
-        self.put("over", line, f'<path class="edge" d="M{number_text(x)} {self.local(line) - 8}h{self.columns.box}"/>')
-        if not self.columns.is_narrow:
-            self.label(line, x + self.columns.box / 2, f"{line.word}, room for {line.rest[0]}"[:22], "middle", "tl")
+        for place in self.columns.lanes_of[machine_of(line.place)]:
+            x = self.columns.left[place]
+            self.put("over", line, f'<path class="edge" d="M{number_text(x)} {self.local(line) - 8}h{self.columns.box}"/>')
+            if not self.columns.is_narrow:
+                self.label(line, x + self.columns.box / 2, f"{line.word}, room for {line.rest[0]}"[:22], "middle", "tl")
 
     on_bridge = on_machine
 
@@ -399,7 +426,15 @@ class Sequence:
         self.inside(line, f"sub {self.name_of(line)} {line.rest[-1]}")
 
     def on_shift(self, line):
-        self.inside(line, f"shift {self.name_of(line)} to {line.rest[-1]}", None, "t deedt")
+        """The board goes from its lane's column to the other's, where it lies before the border."""
+        place, to = line.place, line.rest[0]
+        is_back = self.columns.left[to] < self.columns.left[place]
+        begin, end = (self.columns.left[place], self.columns.right(to)) if is_back else (self.columns.right(place), self.columns.left[to])
+        self.put("under", line, f'<path class="board" d="M{number_text(begin)} {self.local(line)}H{number_text(end)}"/>')
+        self.board(line, end + 14 if is_back else end - 14, is_back)
+        name, is_narrow = self.name_of(line), self.columns.is_narrow
+        self.inside(line, f"shift {name}" if is_narrow else f"shift {name} to {to}", None, "t deedt")
+        self.inside(line, name if is_narrow else f"{name} from {place}", None, "t", to)
 
     def on_hold(self, line):
         self.inside(line, f"{line.word} {line.side}", line.side)
@@ -477,10 +512,18 @@ class Sequence:
     def on_hears(self, line):
         pass
 
-    on_sends = on_unvouched = on_lanes = on_gone = on_hears
+    on_sends = on_unvouched = on_gone = on_hears
+
+    def on_lanes(self, line):
+        """The lanes on which something happens, each over its first machine."""
+        lanes = self.columns.lanes
+        for lane in lanes if len(lanes) > 1 else ():
+            first = next(place for place in self.columns.places if lane_of(place) == lane)
+            self.label(line, self.columns.left[first], f"lane {lane}", name="tc")
 
     def on_stop(self, line):
-        self.inside(line, "stop", None, "t strong")
+        for place in self.columns.lanes_of[machine_of(line.place)]:
+            self.inside(line, "stop", None, "t strong", place)
 
     def on_no(self, line):
         self.put("under", line, f'<path class="no" d="M0 {self.local(line)}H{self.columns.width}"/>')
@@ -564,6 +607,11 @@ class Sequence:
             walls = "".join(f"M{number_text(x)} {number_text(top)}V{number_text(under)}m{wide} 0V{number_text(top)}" for x, top, under in parts)
             self.pieces[number]["under"].insert(0, f'<path class="box" d="{fill}"/><path class="wall" d="{walls}"/>')
 
+    def draw_walls(self):
+        """Between two lanes a line straight down."""
+        for x in self.columns.walls:
+            self.pillar("wall", x, 0, self.bottom())
+
     def draw_bands(self):
         """Every other group is shaded, in the chart as in the text."""
         bands, last, is_odd = {}, None, False
@@ -587,6 +635,7 @@ class Sequence:
         self.draw_boards()
         self.draw_messages()
         self.draw_lines()
+        self.draw_walls()
         self.draw_pillars()
         self.draw_boxes()
         self.draw_bands()
@@ -598,12 +647,12 @@ class Sequence:
         return self.pieces
 
     def heads(self):
-        """The titles of the columns."""
+        """The titles of the columns, and the walls between lanes."""
         rooms = {}
         for line in self.read.lines:
             if line.word in ("machine", "bridge"):
                 rooms.setdefault(machine_of(line.place), line.word)
-        parts = []
+        parts = [f'<path class="wall" d="M{number_text(x)} 0V40"/>' for x in self.columns.walls]
         for place in self.columns.places:
             name = rooms.get(machine_of(place), "machine")
             x, colour = self.columns.left[place], self.columns.colour(place)

@@ -21,6 +21,7 @@ from custody import Custody, is_alarm
 from forms import MERGED, REPORT, Refused, read_text
 from merge import merged, read_log
 from page import page_of
+from sequence import Columns
 
 TOP = os.path.normpath(os.path.join(os.path.dirname(os.path.abspath(__file__)), "..", ".."))
 SVG = "{http://www.w3.org/2000/svg}"
@@ -194,6 +195,43 @@ def test_true_texts(folders):
         except (Failed, xml.ParseError) as why:
             raise Failed(f"{name}: {why}") from why
     return f"{count} texts"
+
+
+# a board that is shifted to lane 2, handed over there and shifted back; a line of the text between two strokes
+ON_LANES = """1 lanes 2/2 machine 1 4/3 machine 2 4/4 insert 1 ID/4 with 1 ID/5 shift 1 1.2 ID/5 with 1.2 ID/6 connects 2.2/6 sends 2.2 in MachineReady/
+7 hears 1.2 out MachineReady/7 sends 1.2 out BoardAvailable/8 hears 2.2 in BoardAvailable/8 starts 1.2 ID/8 sends 2.2 in StartTransport/
+8 between 1.2 ID/9 hears 1.2 out StartTransport/9 opens 1.2 ID/10 move 1.2 begin/11 reads 1.2 out Begun/12 move 1.2 left/13 leaves 1.2 ID/14 show 1.2-2.2 ID/
+15 move 1.2 in/16 settles 1.2 ID/16 with 2.2 ID/17 shift 2.2 2 ID/17 with 2 ID/18 show 2 ID unknown/end lines=18 boards=1 opened=1 settled=1"""
+# lines that are none of a report's, whose lanes don't stand where they may
+NO_LANES = ("lanes 0", "lanes 5", "machine 1.2 4", "bridge 1.2 4", "stop 1.2", "supervise 1.2 on", "tells 1.2 arrived ID 1", "asks 1.2 1", "answered 1.2 1 X",
+            "shift 1 2.2 ID", "shift 1.2 1.2 ID", "shift 1 1.5 ID", "with 1.1 ID", "with 1.5 ID", "with 1.02 ID", "between 64.2 ID", "show 1.2-2 ID", "show 1-2.2 ID")
+
+
+def test_lanes(_):
+    """Each machine's lane has a place of its own, and a shift goes from the one to the other."""
+    board = "00000001-0000-8000-8000-000000000001"
+    text = ON_LANES.replace("\n", "").replace("/", "\n").replace("ID", board)
+    page = page_of(text.encode())
+    check_text("lanes", text.encode(), REPORT, True)
+    read = read_text(text.encode())
+    messages, _ = links.links_of(read)
+    columns = Columns(read, messages)
+    must(columns.places == ["1", "2", "1.2", "2.2"] and len(columns.walls) == 1, f"the places are {columns.places}")
+    must(len(set(columns.colours.values())) == 4, "two places have one colour")
+    must({message.link for message in messages} == {"1.2"}, "a message is of another lane's link")
+    ways = [stay.standing for stay in Custody(read).rows[board].stays]
+    wanted = [("with", "1"), ("with", "1.2"), ("between", "1.2"), ("with", "2.2"), ("with", "2")]
+    must([way for way, before in zip(ways, [None] + ways) if way != before] == wanted, f"the board's way is {ways}")
+    for begin, end in ((columns.right("1"), columns.left["1.2"]), (columns.left["2.2"], columns.right("2"))):
+        must(re.search(rf'<path class="board" d="M{begin} [0-9.]+H{end}"/>', page) is not None, f"no board goes from {begin} to {end}")
+    must("2 machines with 2 lanes, 1 board record" in page, "the lanes aren't told")
+    must("1 machine with 3 lanes, " in page_of(b"1 lanes 4\n2 lanes 3\n3 machine 1 4\n"), "the lanes on which nothing happens aren't told")
+    for form in NO_LANES:
+        spoiled = read_text(f"1 machine 1 4\n2 {form.replace('ID', board)}\n".encode())
+        must([line.number for line in spoiled.unknown] == [2], f"taken for a line of a report: {form}")
+    alone = read_text(b"1 lanes 4\n2 lanes 1\n3 machine 1 4\n4 machine 2 4\nend lines=4 boards=0 opened=0 settled=0\n")
+    must(not alone.unknown and Columns(alone, []).lanes == [1] and not Columns(alone, []).walls, "one lane isn't drawn as one")
+    return f"{len(wanted)} standings, {len(NO_LANES)} lines of no form"
 
 
 def first_alarm(read):
@@ -497,7 +535,7 @@ def test_browser(_):
     return f"clicks and keys on the page of {name}"
 
 
-TESTS = (test_true_texts, test_verdicts, test_hostile, test_spoiled, test_words, test_long, test_hostile_long, test_merge, test_no_order, test_browser)
+TESTS = (test_true_texts, test_lanes, test_verdicts, test_hostile, test_spoiled, test_words, test_long, test_hostile_long, test_merge, test_no_order, test_browser)
 
 
 def main(folders):
