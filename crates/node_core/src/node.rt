@@ -1,4 +1,4 @@
-ghost use Rattle.std.specs.Prelude.{◌≡◌, ◌≤◌, ◌<◌, ◌^◌, true, false, Ok, Some, IsErr, OnErr, IfOk, is_some, length};
+ghost use Rattle.std.specs.Prelude.{◌≡◌, ◌↔◌, ◌≤◌, ◌<◌, ◌^◌, true, false, Ok, Some, IsErr, OnErr, IfOk, is_some, length};
 ghost use Rattle.std.specs.Option.{option_copied};
 ghost use Rattle.hermes_stream.specs.Frames.{most_bytes};
 ghost use Rattle.forecast_query.specs.Forecasts.{most_forecasts};
@@ -258,6 +258,14 @@ impl Node {
             used: self.maker.used(),
             supervised: self.desk.supervised(),
         }
+    }
+
+    /// Whether another lane of the same machine has the same to share.
+    pub fn shares_alike(&self, other: &Node) -> bool
+        requires { self.now.maker.machine ≡ other.now.maker.machine }
+        ensures { (result ≡ true) ↔ (shared_of self.now ≡ shared_of other.now) }
+    {
+        self.maker.used() == other.maker.used() && self.desk.supervised() == other.desk.supervised()
     }
 
     /// Follows another lane of the same machine in what they share.
