@@ -7,7 +7,6 @@ use Rattle.node_core.specs.Shared.{SharedParts, shared_of}
 use Rattle.standings.specs.Marks.{Owned, marks_at, marks_from}
 use Rattle.standings.specs.declared.mark.Mark.{Mark}
 use Rattle.line_report.specs.Lanes.{on_lane, told_on}
-use Rattle.line_report.specs.declared.happening.Happening.{Happening}
 use Rattle.line_report.specs.declared.happening.Happening.TheVariants as happenings
 use Rattle.line_report.specs.declared.happening.LaneHappening.{LaneHappening}
 use Rattle.line_report.specs.declared.happening.Reason.{Reason}

@@ -1,5 +1,5 @@
 -- The tracks of a line stay alike, and each of them stands together, behind a step of one.
-use Rattle.std.proofs.Common.{◌≡◌, ◌∙◌, ◌+◌, ◌-◌, ◌≤◌, ℕ, zero, suc, List, [], ◌∷◌, ap, arith, length, map, refl, subst, sym}
+use Rattle.std.proofs.Common.{◌≡◌, ◌∙◌, ◌-◌, ◌≤◌, ℕ, zero, suc, List, [], ◌∷◌, ap, arith, length, map, refl, subst, sym}
 use Rattle.std.specs.Prelude.{Some, slice_get}
 use Rattle.std.specs.List.{AllByRecursion}
 use Rattle.board_record.specs.Maker.{Maker}
@@ -16,7 +16,7 @@ use Rattle.line_engine.specs.Indexed.{Entries, IsIndexOf}
 use Rattle.line_engine.specs.Sharing.{AreNumbered}
 use Rattle.line_engine.specs.Tracks.{AreKept, AreLike, IsLike, IsOwn, states_of, with_behind}
 use Rattle.line_engine.specs.declared.track.Track.{Track}
-use Rattle.line_engine.proofs.Besides.{AreAlike, beside_track, tracks_behind}
+use Rattle.line_engine.proofs.Besides.{beside_track, tracks_behind}
 
 -- ---- alike
 

@@ -1,5 +1,5 @@
 -- What the laws over runs say of the line behind a run.
-use Rattle.std.proofs.Common.{List, None, ap, append-nil, append_assoc, arith, false, length, subst, sym, ℕ, [], ◌++◌, ◌+◌, ◌∙◌, ◌∷◌, ◌≡◌, ◌≤◌}
+use Rattle.std.proofs.Common.{List, None, ap, append-nil, append_assoc, arith, false, length, subst, sym, [], ◌++◌, ◌+◌, ◌∙◌, ◌∷◌, ◌≡◌, ◌≤◌}
 use Rattle.std.proofs.lemmas.List.{take_all}
 use Rattle.std.specs.Prelude.{take}
 use Rattle.std.specs.List.{AllByRecursion}

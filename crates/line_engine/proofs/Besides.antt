@@ -1,5 +1,5 @@
 -- What a step on one lane leaves of the other lanes of its machines.
-use Rattle.std.proofs.Common.{◌≡◌, ◌∙◌, ◌+◌, ◌-◌, ◌<◌, ◌≤◌, ◌==◌, ℕ, Bool, true, false, zero, suc, List, [], ◌∷◌, ap, arith, length, map, refl, subst, sym, eq-eqb}
+use Rattle.std.proofs.Common.{◌≡◌, ◌∙◌, ◌-◌, ◌<◌, ◌≤◌, ◌==◌, ℕ, Bool, true, false, zero, suc, List, [], ◌∷◌, ap, arith, length, map, refl, subst, sym, eq-eqb}
 use Rattle.std.proofs.Math.Numerals.{sub-one}
 use Rattle.std.specs.Prelude.{Option, None, Some, if◌then◌else◌, option_map, slice_get, slice_index_or, slice_set}
 use Rattle.std.specs.List.{AllByRecursion}
@@ -258,7 +258,7 @@ pub followed_is : (first last : ℕ) (s : LineState) (track : Track) → followe
 followed_is first last s track = ap (unvouched_track s.unvouched) (shared_track (first == last) first last (shared_in first s) (shared_in last s) track)
 
 -- the one that stepped is as it was
-own_followed : (first last : ℕ) (next : LineState) (own : Track) → followed first last next (record own { state = next }) ≡ record own { state = next }
+pub own_followed : (first last : ℕ) (next : LineState) (own : Track) → followed first last next (record own { state = next }) ≡ record own { state = next }
 own_followed first last next own =
     followed_is first last next (record own { state = next })
     ∙ ap (λ (s : LineState). record own { state = record s { unvouched = next.unvouched } }) (state_rests first last next next refl)

@@ -38,6 +38,7 @@ pub mod Stepped
 pub mod Stops
 pub mod Telling
 pub mod There
+pub mod Unchanged
 pub mod Viewed
 pub mod Vouched
 pub mod WholeLedger

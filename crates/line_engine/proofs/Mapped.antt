@@ -1,5 +1,5 @@
 -- A loop that changes each track of a list, in its order.
-use Rattle.std.proofs.Common.{◌≡◌, ◌∙◌, ◌+◌, ◌<◌, ◌≤◌, ℕ, zero, suc, List, [], ◌∷◌, ap, arith, length, map, refl, sym}
+use Rattle.std.proofs.Common.{◌≡◌, ◌∙◌, ◌+◌, ◌<◌, ◌≤◌, ℕ, zero, suc, List, [], ◌∷◌, ap, arith, length, map, refl}
 use Rattle.std.specs.Prelude.{slice_index_or, slice_set}
 use Rattle.line_engine.specs.declared.track.Track.{Track}
 

@@ -7,7 +7,7 @@ use Rattle.node_core.specs.Node.{NodeState}
 use Rattle.node_core.specs.declared.input.Input.{Input}
 use Rattle.node_core.specs.declared.input.Input.TheVariants as inputs
 use Rattle.line_report.specs.declared.happening.Happening.{Happening}
-use Rattle.line_step.specs.Lines.{Connects, LineDoes, arrived, connecting}
+use Rattle.line_step.specs.Lines.{LineDoes, arrived, connecting}
 use Rattle.line_step.specs.Requests.{Request}
 use Rattle.line_step.specs.State.{LineState, machine_in, with_machine}
 use Rattle.line_step.specs.Steps.{MachineSteps}

@@ -1,5 +1,5 @@
 -- The indexes of both lanes of a shift follow, one id after the other.
-use Rattle.std.proofs.Common.{◌≡◌, ◌≢◌, ◌∙◌, ◌+◌, ◌-◌, ◌<◌, ◌≤◌, ◌++◌, ◌||◌, ℕ, Bool, true, false, zero, suc, List, [], ◌∷◌, ap, append_assoc, append-nil, arith, drop, get_or, length, refl, subst, sym, eq-eqb}
+use Rattle.std.proofs.Common.{◌≡◌, ◌≢◌, ◌∙◌, ◌+◌, ◌-◌, ◌<◌, ◌≤◌, ◌++◌, ◌||◌, ℕ, Bool, true, false, zero, suc, List, [], ◌∷◌, ap, append_assoc, append-nil, drop, get_or, length, refl, subst, sym, eq-eqb}
 use Rattle.std.proofs.Math.Numerals.{sub-one}
 use Rattle.std.proofs.lemmas.List.{drop_more, drop_all}
 use Rattle.std.specs.Prelude.{IsSomeAnd, Option, Some, None, nat_eq, if◌then◌else◌, slice_get}
@@ -16,11 +16,11 @@ use Rattle.line_step.specs.Together.{IsLineTogether}
 use Rattle.line_engine.specs.Indexed.{Entries, Follows, IsIndexOf, entry_at, indexed, marks_in_entry, marks_listed, patched}
 use Rattle.line_engine.specs.Seats.{both, own_seat, seat_listed, seat_told}
 use Rattle.line_engine.specs.Sharing.{AreNumbered}
-use Rattle.line_engine.specs.Tracks.{FollowsBoth, FollowsOne, IsReady, track_in, with_behind, with_index}
+use Rattle.line_engine.specs.Tracks.{FollowsBoth, FollowsOne, IsReady, track_in, with_behind}
 use Rattle.line_engine.specs.declared.index.Moved.{Moved}
 use Rattle.line_engine.specs.declared.seat.Seat.{Seat}
 use Rattle.line_engine.specs.declared.track.Track.{Track}
-use Rattle.line_engine.proofs.Following.{IsFollowed, IsFollowing, at_end, begins_at, ends_index, goes_on_at}
+use Rattle.line_engine.proofs.Following.{IsFollowing, at_end, begins_at, ends_index, goes_on_at}
 use Rattle.line_engine.proofs.OnLane.{behind_there}
 use Rattle.line_engine.proofs.OnTwo.{get_behind}
 use Rattle.line_engine.proofs.Rising.{not_again}

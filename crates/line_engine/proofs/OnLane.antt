@@ -1,5 +1,5 @@
 -- A line of the script on one lane.
-use Rattle.std.proofs.Common.{◌≡◌, ◌∙◌, ◌+◌, ◌-◌, ◌≤◌, ◌++◌, ◌==◌, ℕ, true, zero, suc, List, [], ◌∷◌, ap, append-nil, length, map, refl, subst, sym}
+use Rattle.std.proofs.Common.{◌≡◌, ◌∙◌, ◌+◌, ◌≤◌, ◌++◌, ◌==◌, ℕ, true, zero, suc, List, [], ◌∷◌, ap, append-nil, length, map, refl, subst, sym}
 use Rattle.std.proofs.Math.Numerals.{sub-one}
 use Rattle.std.proofs.lemmas.Option.{get_or_from_slice_get}
 use Rattle.std.specs.Prelude.{Some, Err, get_or, if◌then◌else◌, slice_get, slice_set}

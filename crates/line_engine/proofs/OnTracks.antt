@@ -1,6 +1,6 @@
 -- A line of a script, on each lane: what holds of each step of a track holds of the steps that its
 -- parts are there.
-use Rattle.std.proofs.Common.{◌≡◌, ◌∙◌, ◌+◌, ◌≤◌, ◌++◌, ℕ, Bool, true, false, List, [], ◌∷◌, None, ap, append-nil, append_assoc, arith, length, refl, subst, sym}
+use Rattle.std.proofs.Common.{◌≡◌, ◌∙◌, ◌+◌, ◌≤◌, ◌++◌, ℕ, Bool, false, List, [], ◌∷◌, None, ap, append-nil, append_assoc, arith, length, refl, subst, sym}
 use Rattle.std.specs.Prelude.{Option, is_some, take}
 use Rattle.std.specs.List.{AllByRecursion}
 use Rattle.line_script.specs.declared.line.LaneLine.{LaneLine}

@@ -6,13 +6,11 @@ use Rattle.std.specs.List.{AllByRecursion, flat_map}
 use Rattle.board_record.specs.declared.record.Record.{Record}
 use Rattle.node_core.specs.Node.{NodeState}
 use Rattle.node_core.specs.Shared.{SharedParts, shared_of}
-use Rattle.node_core.specs.Shifts.{board_given}
 use Rattle.node_core.specs.declared.input.Input.{Input}
 use Rattle.node_core.specs.declared.input.Input.TheVariants as inputs
-use Rattle.standings.specs.Marks.{Owned, has_id, marks_of}
+use Rattle.standings.specs.Marks.{Owned, has_id}
 use Rattle.standings.specs.declared.mark.Mark.{Mark}
 use Rattle.line_script.specs.declared.line.LaneLine.TheVariants as lane_lines
-use Rattle.line_report.specs.Lanes.{told_on}
 use Rattle.line_report.specs.Shifts.{shift_told}
 use Rattle.line_report.specs.declared.happening.Happening.{Happening}
 use Rattle.line_report.specs.declared.happening.Happening.TheVariants as happenings
@@ -25,8 +23,8 @@ use Rattle.node_core.specs.declared.input.No.TheVariants as nos
 use Rattle.line_step.specs.Reasons.{May, if_there, may_do, may_give_away, may_take_in, no_if}
 use Rattle.line_step.specs.Requests as requests
 use Rattle.line_step.specs.Shown.{ascending}
-use Rattle.line_step.specs.State.{LineState, machine_in, marks_in, owned, owned_by}
-use Rattle.line_step.specs.Steps.{MachineSteps, moment_of, unread_by}
+use Rattle.line_step.specs.State.{LineState, machine_in, marks_in, owned}
+use Rattle.line_step.specs.Steps.{MachineSteps}
 use Rattle.line_step.specs.Together.{IsLineTogether}
 use Rattle.line_step.proofs.ChangedStandings.{line_stays}
 use Rattle.line_step.proofs.Keeps.{does_together, lines_stay}
@@ -35,17 +33,17 @@ use Rattle.line_lanes.specs.Lanes.{Lanes, beside, beside_nodes, has_lane, lines_
 use Rattle.line_lanes.specs.Reasons.{and_may, first_track, may_shift}
 use Rattle.line_lanes.specs.Shown.{standings_on}
 use Rattle.line_lanes.specs.Steps.{LanesDo, Shifts, told_once}
-use Rattle.line_lanes.proofs.Moving.{MayShift, gets_does, gives_does, may_shift_is, step_like}
+use Rattle.line_lanes.proofs.Moving.{gets_does, gives_does, may_shift_is, step_like}
 use Rattle.line_lanes.proofs.Sharing.{AreShared}
 use Rattle.line_engine.specs.Given.{GivesBoard, is_bridge_at, is_bridge_in}
 use Rattle.line_engine.specs.Indexed.{Entries, Follows, IsIndexOf, marks_in_entry, marks_listed}
 use Rattle.line_engine.specs.Seats.{both, own_seat, seat_beside, seat_from, seat_listed, seat_told}
 use Rattle.line_engine.specs.Sharing.{AreNumbered, following}
-use Rattle.line_engine.specs.Tracks.{AreKept, FollowsBoth, GivesOn, IsFollowing, IsLike, IsOwn, IsReady, MayOn, StepsOn, TakesOn, TellsDone, lanes_of, states_of, track_in, with_behind, with_index, with_state}
+use Rattle.line_engine.specs.Tracks.{AreKept, FollowsBoth, GivesOn, IsFollowing, IsLike, IsOwn, IsReady, MayOn, TakesOn, TellsDone, lanes_of, states_of, track_in, with_behind, with_index, with_state}
 use Rattle.line_engine.specs.declared.seat.Seat.{Seat}
 use Rattle.line_engine.specs.declared.track.Track.{Track}
 use Rattle.line_engine.proofs.Alike.{Stepped, at_place, beside_numbered, beside_owned, beside_stands, kept_now, like_all, like_back, likes_at, likes_now, now_is, own_beside, shared_wide, state_at, tracks_now}
-use Rattle.line_engine.proofs.Besides.{AreAlike, Touches, beside_alike, beside_track, one_touched, states_behind, tracks_behind, tracks_follow}
+use Rattle.line_engine.proofs.Besides.{Touches, beside_alike, beside_track, one_touched, states_behind, tracks_behind, tracks_follow}
 use Rattle.line_engine.proofs.Following.{listed_is}
 use Rattle.line_engine.proofs.Lanes.{has_there}
 use Rattle.line_engine.proofs.Numbering.{machine_numbered}

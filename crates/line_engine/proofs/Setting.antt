@@ -1,5 +1,5 @@
 -- The lanes of a line without a machine are set.
-use Rattle.std.proofs.Common.{◌≡◌, ◌∙◌, ◌+◌, ◌-◌, ◌≤◌, ◌++◌, ℕ, zero, suc, List, [], ◌∷◌, Option, None, Some, ap, append-nil, arith, length, map, refl, subst, sym}
+use Rattle.std.proofs.Common.{◌≡◌, ◌∙◌, ◌+◌, ◌-◌, ◌≤◌, ◌++◌, ℕ, zero, suc, List, [], ◌∷◌, Option, Some, ap, append-nil, arith, length, map, refl, subst, sym}
 use Rattle.std.specs.Prelude.{Err, false, is_some, slice_get}
 use Rattle.std.specs.List.{AllByRecursion, flat_map}
 use Rattle.node_core.specs.Node.{NodeState}

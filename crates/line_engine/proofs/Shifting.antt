@@ -1,5 +1,5 @@
 -- A machine gives a board to another of its lanes, or gets one.
-use Rattle.std.proofs.Common.{◌≡◌, ◌∙◌, ◌-◌, ◌++◌, ℕ, ℤ, Bool, true, false, List, [], refl, sym, ap, subst}
+use Rattle.std.proofs.Common.{◌≡◌, ◌∙◌, ◌-◌, ◌++◌, ℕ, ℤ, Bool, true, false, List, [], refl, ap, subst}
 use Rattle.std.specs.Prelude.{Option, Some, None, is_some, not, slice_index_or}
 use Rattle.board_record.specs.declared.record.Record.{Record}
 use Rattle.board_record.specs.declared.sensed.Sensed.{Sensed}

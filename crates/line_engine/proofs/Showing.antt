@@ -1,5 +1,5 @@
 -- What is shown of all machines, machine by machine and lane by lane.
-use Rattle.std.proofs.Common.{◌≡◌, ◌∙◌, ◌+◌, ◌-◌, ◌<◌, ◌≤◌, ◌++◌, ℕ, zero, suc, List, [], ◌∷◌, ap, append-nil, append_assoc, arith, drop, length, map, refl, subst, sym}
+use Rattle.std.proofs.Common.{◌≡◌, ◌∙◌, ◌+◌, ◌-◌, ◌<◌, ◌≤◌, ◌++◌, ℕ, zero, suc, List, [], ◌∷◌, ap, append-nil, append_assoc, arith, drop, length, map, refl, sym}
 use Rattle.std.proofs.lemmas.List.{drop_all, drop_more}
 use Rattle.std.specs.Prelude.{slice_index_or}
 use Rattle.node_core.specs.Node.{NodeState}

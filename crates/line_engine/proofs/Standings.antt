@@ -1,7 +1,7 @@
 -- The standings that a line on a lane changed are those of the ids that its acts name.
-use Rattle.std.proofs.Common.{◌≡◌, ◌∙◌, ◌+◌, ◌++◌, ◌==◌, ℕ, Bool, true, false, List, [], ◌∷◌, Option, None, Some, ap, refl, sym}
+use Rattle.std.proofs.Common.{◌≡◌, ◌∙◌, ◌+◌, ◌++◌, ◌==◌, ℕ, Bool, false, List, [], ◌∷◌, Option, None, Some, ap, refl, sym}
 use Rattle.std.specs.List.{AllByRecursion, flat_map}
-use Rattle.standings.specs.Marks.{Owned, has_id, is_held, mark_if, marks_at, marks_from, marks_of}
+use Rattle.standings.specs.Marks.{Owned, has_id, is_held, mark_if, marks_at, marks_from}
 use Rattle.standings.specs.declared.mark.Mark.{Mark}
 use Rattle.standings.specs.declared.mark.Mark.TheVariants.{Kept, Outlet, Intake}
 use Rattle.line_report.specs.declared.happening.LaneHappening.{LaneHappening}

@@ -1,13 +1,13 @@
 -- What lanes count together can be told, or not.
-use Rattle.std.proofs.Common.{◌≡◌, ◌∙◌, ◌+◌, ◌<◌, ◌≤◌, ◌&&◌, ℕ, Bool, true, false, List, [], ◌∷◌, Option, ap, arith, drop, length, refl, suc, sym, zero}
+use Rattle.std.proofs.Common.{◌≡◌, ◌∙◌, ◌+◌, ◌<◌, ◌≤◌, ◌&&◌, ℕ, Bool, true, false, List, [], ◌∷◌, Option, ap, arith, drop, length, refl, suc, zero}
 use Rattle.std.specs.Prelude.{nat_le}
-use Rattle.std.proofs.lemmas.Bool.{false≢true, le-leb, leb-true}
+use Rattle.std.proofs.lemmas.Bool.{le-leb, leb-true}
 use Rattle.line_report.specs.declared.summary.Summary.{Summary}
 use Rattle.line_world.specs.Boards.{boards_on}
 use Rattle.line_step.specs.State.{LineState}
 use Rattle.line_step.specs.Views.{summary_of}
 use Rattle.line_lanes.specs.Views.{sum_of, summary_on}
-use Rattle.line_engine.specs.Kept.{is_counted, most_counted}
+use Rattle.line_engine.specs.Kept.{most_counted}
 use Rattle.line_engine.specs.Summed.{added_up, is_told, summed}
 use Rattle.line_engine.specs.Tracks.{lanes_of, states_of}
 use Rattle.line_engine.specs.declared.track.Track.{Track}

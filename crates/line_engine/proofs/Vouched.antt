@@ -1,12 +1,12 @@
 -- Nobody vouches for a lane where nobody does for the line.
-use Rattle.std.proofs.Common.{◌≡◌, ◌∙◌, ◌-◌, ◌≤◌, ℕ, Bool, zero, suc, List, [], ◌∷◌, ap, arith, refl, sym}
+use Rattle.std.proofs.Common.{◌≡◌, ◌∙◌, ◌≤◌, ℕ, Bool, zero, suc, List, [], ◌∷◌, ap, arith, refl, sym}
 use Rattle.std.proofs.Math.Numerals.{sub-one}
 use Rattle.std.specs.Prelude.{get_or}
 use Rattle.std.specs.List.{AllByRecursion}
 use Rattle.line_step.specs.State.{LineState}
 use Rattle.line_lanes.specs.Lanes.{empty_track, track, unvouched_of}
 use Rattle.line_engine.specs.Each.{AreVouchedAlike}
-use Rattle.line_engine.specs.Tracks.{AreKept, AreLike, IsLike, lanes_of, states_of}
+use Rattle.line_engine.specs.Tracks.{AreKept, AreLike, IsLike, states_of}
 use Rattle.line_engine.specs.declared.track.Track.{Track}
 use Rattle.line_engine.proofs.Seen.{seen}
 

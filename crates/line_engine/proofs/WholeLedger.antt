@@ -14,7 +14,7 @@ use Rattle.line_step.specs.Lines.{LineSteps}
 use Rattle.line_step.specs.Requests.{nothing}
 use Rattle.line_step.specs.Runs.{Point, all_told, state_behind}
 use Rattle.line_step.specs.Shown.{standings_told}
-use Rattle.line_step.specs.State.{LineState, marks_in}
+use Rattle.line_step.specs.State.{LineState}
 use Rattle.line_step.specs.Tracks.{IsBeside, other_line, own_line}
 use Rattle.line_step.proofs.Beside.{beside-marks, beside-old}
 use Rattle.line_step.proofs.Counted.{rises}

@@ -2,7 +2,6 @@
 use Rattle.std.proofs.Common.{◌≡◌, ◌∙◌, ◌+◌, ◌-◌, ◌≤◌, ◌==◌, ◌++◌, ◌⊎◌, inl, inr, ℕ, zero, suc, Bool, true, false, List, [], ◌∷◌, None, Some, Ok, Err, ap, append-nil, refl, subst, sym}
 use Rattle.std.specs.Prelude.{Option, if◌then◌else◌, length, slice_get}
 use Rattle.std.specs.List.{AllByRecursion}
-use Rattle.line_base.specs.declared.states.Side.{Side}
 use Rattle.line_base.specs.declared.states.Side.TheVariants.{Entry, Exit}
 use Rattle.line_script.specs.declared.line.LaneLine.{LaneLine}
 use Rattle.line_script.specs.declared.line.LaneLine.TheVariants as lane_lines

@@ -38,6 +38,12 @@ unvouched_track unvouched track =
 abbrev pub shared_in : ℕ → LineState → Option SharedParts
 shared_in machine s = option_map shared_of (machine_in machine s)
 
+-- two lanes have the same to share, at the machines of two numbers
+pub record ShareAlike (first last : ℕ) (one other : LineState) : Type 0 where
+  pub last_is : shared_in last one ≡ shared_in last other
+  pub first_is : shared_in first one ≡ shared_in first other
+  pub unvouched_is : one.unvouched ≡ other.unvouched
+
 -- a track follows another one, at the machines of two numbers
 abbrev pub shared_by : ℕ → ℕ → LineState → Track → Track
 shared_by first last s track =

@@ -1,5 +1,5 @@
 -- THE COUNTS of lanes together.
-use Rattle.std.specs.Prelude.{◌+◌, ◌&&◌, ℕ, Bool, List, [], ◌∷◌, nat_le}
+use Rattle.std.specs.Prelude.{◌+◌, ◌&&◌, Bool, List, [], ◌∷◌, nat_le}
 use Rattle.line_report.specs.declared.summary.Summary.{Summary}
 use Rattle.line_step.specs.Views.{summary_of}
 use Rattle.line_engine.specs.Kept.{most_counted}

@@ -1,5 +1,5 @@
 -- THE TRACKS of a line in code: of each lane its line, and the index of its boards.
-use Rattle.std.specs.Prelude.{◌≡◌, ◌≤◌, ◌++◌, ◌-◌, ℕ, ◌<◌, zero, suc, Bool, true, false, IsSomeAnd, List, [], ◌∷◌, Option, None, Some, length, map, nat_eq, slice_get, if◌then◌else◌}
+use Rattle.std.specs.Prelude.{◌≡◌, ◌≢◌, ◌==◌, ◌≤◌, ◌++◌, ◌-◌, ℕ, ◌<◌, zero, suc, Bool, true, false, IsSomeAnd, List, [], ◌∷◌, Option, None, Some, length, map, nat_eq, slice_get, if◌then◌else◌}
 use Rattle.std.specs.List.{AllByRecursion, flat_map}
 use Rattle.node_core.specs.Shared.{shared_of}
 use Rattle.board_record.specs.declared.record.Record.{Record}
@@ -168,6 +168,16 @@ abbrev pub IsReady : ℕ → List Track → Type 0
 IsReady lane tracks =
     IsSomeAnd (track_in lane tracks)
     (λ (own : Track). IsLineTogether own.state × AreNumbered own.state)
+
+-- another lane than this one
+abbrev pub lane_beside : ℕ → ℕ
+lane_beside lane = if lane == 1 then 2 else 1
+
+-- all other lanes are of one line, and the machines of each have their numbers
+pub record AreBeside (lane : ℕ) (tracks : List Track) : Type 0 where
+  pub line : LineState
+  pub others : (other : ℕ) (track : Track) → other ≢ lane → track_in other tracks ≡ Some track
+      → IsLike line track.state × AreNumbered track.state
 
 -- and nothing stands against this there
 abbrev pub MayOn : ℕ → (LineState → May) → List Track → Type 0

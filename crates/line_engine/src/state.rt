@@ -1,6 +1,6 @@
-ghost use Rattle.std.specs.Prelude.{◌≡◌, ◌≤◌, false, length, option_map};
+ghost use Rattle.std.specs.Prelude.{◌≡◌, ◌≤◌, false, length, option_map, true};
 ghost use Rattle.node_core.specs.Shared.{shared_of};
-ghost use Rattle.line_engine.specs.Sharing.{AreNumbered, sharing};
+ghost use Rattle.line_engine.specs.Sharing.{AreNumbered, shared_in, sharing};
 ghost use Rattle.line_link.specs.Flow.{coming};
 ghost use Rattle.line_link.specs.Link.{flow_to};
 ghost use Rattle.line_step.specs.World.{end_of, link_at, link_of};
@@ -130,6 +130,20 @@ impl State {
         match self.machine(machine) {
             None => None,
             Some(node) => Some(node.shared(machine)),
+        }
+    }
+
+    /// Whether a machine has the same to share here and on another lane; so it is where it stands on
+    /// neither.
+    pub fn shares_alike(&self, machine: u32, other: &State) -> bool
+        requires numbered { AreNumbered self.now }
+        requires other { AreNumbered other.now }
+        ensures { result ≡ true → shared_in machine self.now ≡ shared_in machine other.now }
+    {
+        match (self.machine(machine), other.machine(machine)) {
+            (Some(one), Some(two)) => one.shares_alike(two),
+            (None, None) => true,
+            (_, _) => false,
         }
     }
 

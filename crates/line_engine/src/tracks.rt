@@ -28,8 +28,8 @@ ghost use Rattle.line_engine.specs.declared.seat.Seat.TheVariants.{Nowhere};
 ghost use Rattle.std.specs.Prelude.{◌==◌, SomeIff};
 ghost use Rattle.line_engine.specs.Summed.{added_up, is_told};
 ghost use Rattle.std.specs.List.{AllByRecursion};
-ghost use Rattle.line_engine.specs.Sharing.{AreNumbered, counted_track, followed_with, grown, shared_in, shared_with, sharing_track, sharing_track_if, unvouched_track};
-ghost use Rattle.line_engine.specs.Tracks.{AreKept, FollowsBoth, FollowsDone, FollowsOne, GivesOn, HasRoom, IsFollowing, IsReady, MayOn, SharesOf, StepsOn, TakesOn, TellsDone, empty_track, empty_tracks, lanes_of, made_told, states_of, track_in};
+ghost use Rattle.line_engine.specs.Sharing.{AreNumbered, ShareAlike, counted_track, followed_with, grown, shared_in, shared_with, sharing_track, sharing_track_if, unvouched_track};
+ghost use Rattle.line_engine.specs.Tracks.{AreBeside, AreKept, FollowsBoth, FollowsDone, FollowsOne, GivesOn, HasRoom, IsFollowing, IsReady, MayOn, SharesOf, StepsOn, TakesOn, TellsDone, empty_track, empty_tracks, lane_beside, lanes_of, made_told, states_of, track_in};
 
 use crate::changed::{ids_named, ids_of_both};
 use crate::index::{Index, Moved};
@@ -302,7 +302,7 @@ impl Tracks {
     {
         let done = self.do_line(number, lane, line)?;
         let span = stepped(line);
-        self.share(lane, span);
+        self.share_changed(lane, span);
         self.tell_done(lane, span, done, told)
     }
 
@@ -359,6 +359,31 @@ impl Tracks {
     }
 
     // ---- what lanes share
+
+    /// The other lanes follow this one, where it has something else to share than they have.
+    fn share_changed(&mut self, lane: u32, span: Span)
+        requires ready { IsReady lane self.old }
+        requires beside { AreBeside lane self.old }
+        ensures { IsFollowing lane span.first span.last self.old self.new }
+    {
+        if self.is_shared(lane, span) {
+            return;
+        }
+        self.share(lane, span);
+    }
+
+    /// Whether the other lanes have what this one has to share, at the machines that may have
+    /// stepped. They are alike, so one of them tells.
+    fn is_shared(&self, lane: u32, span: Span) -> bool
+        requires ready { IsReady lane self.now }
+        requires beside { AreBeside lane self.now }
+        ensures { result ≡ true → IsFollowing lane span.first span.last self.now self.now }
+    {
+        match (self.track(lane), self.track(lane_beside(lane))) {
+            (Some(own), Some(other)) => are_alike(&own.state, &other.state, span),
+            (_, _) => true,
+        }
+    }
 
     /// The other lanes follow this one, at the machines that may have stepped.
     fn share(&mut self, lane: u32, span: Span)
@@ -753,6 +778,27 @@ struct Shares {
     last: Option<Shared>,
     first: Option<Shared>,
     unvouched: Option<u64>,
+}
+
+/// Whether two lanes have the same to share, at the machines of a span.
+fn are_alike(one: &State, other: &State, span: Span) -> bool
+    requires one { AreNumbered one.now }
+    requires other { AreNumbered other.now }
+    ensures { result ≡ true → ShareAlike span.first span.last one.now other.now }
+{
+    one.unvouched() == other.unvouched()
+        && one.shares_alike(span.last, other)
+        && (span.first == span.last || one.shares_alike(span.first, other))
+}
+
+/// Another lane than this one.
+fn lane_beside(lane: u32) -> u32
+    ensures { result ≡ lane_beside lane }
+{
+    if lane == 1 {
+        return 2;
+    }
+    1
 }
 
 fn shares_of(track: &Track, span: Span) -> Shares

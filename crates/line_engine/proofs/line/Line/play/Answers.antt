@@ -1,8 +1,8 @@
-use Rattle.std.proofs.Common.{◌≡◌, ◌+◌, ◌≤◌, ℕ, List, false, refl, subst, sym}
+use Rattle.std.proofs.Common.{◌≡◌, ◌+◌, ◌≤◌, ℕ, false, refl, subst, sym}
 use Rattle.line_lanes.specs.Lanes.{Lanes, lines_of}
 use Rattle.line_engine.specs.Tracks.{lanes_of}
 use Rattle.line_engine.proofs.Nexts.{reached_next}
-use Rattle.line_engine.proofs.Seen.{line_seen, seen_as}
+use Rattle.line_engine.proofs.Seen.{line_seen}
 use Rattle.line_engine.proofs.Vouched.{vouched_alike}
 use Rattle.line_engine.proofs.line.Line.play.Goals as goal
 

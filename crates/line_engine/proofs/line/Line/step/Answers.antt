@@ -1,4 +1,4 @@
-use Rattle.std.proofs.Common.{List, None, subst, sym, ◌∙◌, ◌+◌, ◌≡◌, ◌≤◌, ℕ}
+use Rattle.std.proofs.Common.{List, None, subst, sym, ◌∙◌, ◌≡◌, ◌≤◌, ℕ}
 use Rattle.std.proofs.lemmas.Result.{IfOk-weaker}
 use Rattle.std.specs.Prelude.{Err, IfOk, Ok, Result}
 use Rattle.line_bounds.specs.Within.{IsBounded}
@@ -8,7 +8,7 @@ use Rattle.one_standing.specs.Facts.{HasCustodyFacts}
 use Rattle.one_standing.specs.Reached.{FollowsLine, HasUniqueIds, IsReached}
 use Rattle.one_standing.specs.Standing.{HasOneStanding}
 use Rattle.line_lanes.specs.Along.{IsLaneReached, IsOnOneLane}
-use Rattle.line_lanes.specs.Lanes.{Lanes, lines_of, track, unvouched_of}
+use Rattle.line_lanes.specs.Lanes.{lines_of, track, unvouched_of}
 use Rattle.line_lanes.specs.Parts.{LaneLineSteps}
 use Rattle.line_engine.specs.Each.{AreVouchedAlike, EachLaneNow, EachNext}
 use Rattle.line_engine.specs.Next.{AnswersNext, BlameNext, ContentsNext, LedgerNext, OpeningsNext, OrderNext, ReplayNext}

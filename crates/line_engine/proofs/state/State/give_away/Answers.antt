@@ -1,4 +1,4 @@
-use Rattle.std.proofs.Common.{◌≡◌, subst, sym, ◌∙◌}
+use Rattle.std.proofs.Common.{◌≡◌, subst, sym}
 use Rattle.line_step.specs.Reasons.{may_do, may_give_away}
 use Rattle.line_step.specs.State.{LineState}
 use Rattle.line_engine.specs.contracts.state.State.{the_view}

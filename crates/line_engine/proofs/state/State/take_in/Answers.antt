@@ -1,4 +1,4 @@
-use Rattle.std.proofs.Common.{◌≡◌, refl, subst, sym, ◌∙◌}
+use Rattle.std.proofs.Common.{◌≡◌, refl, subst, sym}
 use Rattle.line_step.specs.Reasons.{may_do, may_take_in}
 use Rattle.line_step.specs.State.{LineState}
 use Rattle.node_core.specs.declared.input.Input.TheVariants as inputs

@@ -1,6 +1,5 @@
-use Rattle.std.proofs.Common.{◌≡◌, ap}
 use Rattle.std.proofs.lemmas.Result.{on_ok_weaker}
-use Rattle.line_engine.specs.Tracks.{FollowsBoth, IsFollowing}
+use Rattle.line_engine.specs.Tracks.{FollowsBoth}
 use Rattle.line_engine.proofs.OnTwo.{ShiftMade, both_ready, gave_ready, got_ready, may_give, may_take, shares_one, shift_apart, shift_made}
 use Rattle.line_engine.proofs.tracks.Tracks.do_shift.Goals as goal
 use Rattle.line_engine.proofs.tracks.Tracks.do_shift.Goals.{After-tell_shifted}

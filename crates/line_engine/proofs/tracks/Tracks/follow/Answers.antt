@@ -1,11 +1,11 @@
-use Rattle.std.proofs.Common.{◌≡◌, ◌-◌, ◌∷◌, List, arith, refl}
+use Rattle.std.proofs.Common.{◌≡◌, ◌-◌, ◌∷◌, List, arith}
 use Rattle.std.proofs.lemmas.Result.{IfOk-weaker}
 use Rattle.std.specs.Prelude.{slice_set}
 use Rattle.line_step.specs.Together.{IsLineTogether}
 use Rattle.line_engine.specs.Sharing.{AreNumbered}
 use Rattle.line_engine.specs.Tracks.{FollowsOne, FollowsTrack}
 use Rattle.line_engine.specs.declared.track.Track.{Track}
-use Rattle.line_engine.proofs.Lanes.{IsLater, later, own_ready}
+use Rattle.line_engine.proofs.Lanes.{IsLater, later}
 use Rattle.line_engine.proofs.Telling.{follows_first, follows_later}
 use Rattle.line_engine.proofs.tracks.Tracks.follow.Goals as goal
 

@@ -1,5 +1,5 @@
-use Rattle.std.proofs.Common.{arith, eq-eqb, ◌==◌, ◌≡◌, true, false}
-use Rattle.line_engine.proofs.Besides.{machines_one, machines_two}
+use Rattle.std.proofs.Common.{arith, ◌==◌, ◌≡◌, false}
+use Rattle.line_engine.proofs.Besides.{machines_two}
 use Rattle.line_engine.proofs.tracks.Tracks.follow_machines.Goals as goal
 
 pub returns : goal.returns

@@ -1,9 +1,9 @@
-use Rattle.std.proofs.Common.{◌≡◌, ◌∙◌, List, [], length, sym}
+use Rattle.std.proofs.Common.{◌∙◌, List, [], length, sym}
 use Rattle.std.proofs.lemmas.Result.{IfOk-weaker}
 use Rattle.line_report.specs.declared.happening.LaneHappening.{LaneHappening}
 use Rattle.line_lanes.specs.Parts.{LaneLineSteps, stop_parts}
 use Rattle.line_engine.specs.Each.{Plays}
-use Rattle.line_engine.specs.Tracks.{lanes_of, states_of}
+use Rattle.line_engine.specs.Tracks.{lanes_of}
 use Rattle.line_engine.proofs.Lanes.{states_wide}
 use Rattle.line_engine.proofs.Played.{stop_line, stop_within}
 use Rattle.line_engine.proofs.tracks.Tracks.play.Goals as goal

@@ -1,4 +1,4 @@
-use Rattle.std.proofs.Common.{◌≡◌, ◌∙◌, sym}
+use Rattle.std.proofs.Common.{◌∙◌, sym}
 use Rattle.std.proofs.lemmas.Result.{on_ok_weaker}
 use Rattle.line_engine.proofs.OnTwo.{shift_refused}
 use Rattle.line_engine.proofs.tracks.Tracks.shift.Goals as goal

@@ -1,4 +1,4 @@
-use Rattle.std.proofs.Common.{◌≡◌, ◌∙◌, ◌++◌, ℕ, List, ap, arith}
+use Rattle.std.proofs.Common.{◌≡◌, ◌∙◌, ◌++◌, List, ap, arith}
 use Rattle.line_report.specs.declared.happening.Happening.{Happening}
 use Rattle.line_step.specs.Named.{ids_named}
 use Rattle.line_step.specs.Shown.{ascending}
