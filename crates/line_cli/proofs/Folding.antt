@@ -19,7 +19,7 @@ use Rattle.line_lanes.specs.Views.{lanes_text, summary_on}
 use Rattle.line_lanes.proofs.ScriptRuns.{RunsOn, line-counted, one-told, run-one, runs-on, runs-told}
 use Rattle.made_script.specs.Fold.{fold_byte, fold_from, fold_of}
 use Rattle.made_script.specs.Script.{made_script}
-use Rattle.lane_ledger.specs.Proper.{AreProperOn}
+use Rattle.report_ledger.specs.Proper.{AreProperOn}
 use Rattle.line_cli.specs.Report.{report_text}
 use Rattle.line_cli.specs.Reader.{DoesAsked, Sums}
 use Rattle.line_cli.specs.Making.{IsFolding, IsLastLine, IsMakeText}

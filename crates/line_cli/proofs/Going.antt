@@ -14,7 +14,7 @@ use Rattle.line_lanes.specs.Views.{has_lie_on, lanes_text, summary_on}
 use Rattle.line_lanes.proofs.ScriptRuns.{RunsOn, behind-append, points-append, run-append, runs-on, runs-told}
 use Rattle.line_cli.specs.Texts.{refused_text}
 use Rattle.line_cli.specs.Script.{Script, Refusal, script_of, behind_lines}
-use Rattle.lane_ledger.specs.Proper.{ArePointsProper}
+use Rattle.report_ledger.specs.Proper.{ArePointsProper}
 use Rattle.line_cli.specs.Report.{ending, report_text}
 use Rattle.line_cli.specs.LineEnds.{HasNoEnd}
 use Rattle.line_cli.specs.Reader.{Place, Advances, Takes, Refuses, RefusesIn, SumsUp, Finishes, script_behind}

@@ -15,10 +15,10 @@ use Rattle.machine_log.proofs.Solid.{inner_decimal, is_inner, join}
 use Rattle.report_ledger.specs.Ledgers.{AreUnnumbered}
 use Rattle.report_ledger.specs.ReportLines.{line_of, lines_in}
 use Rattle.report_ledger.proofs.Lines.{line_read}
-use Rattle.lane_ledger.specs.Asked.{LaneReportTellsStarts}
-use Rattle.lane_ledger.specs.Fronts.{LaneFrontsTellLedgers}
-use Rattle.lane_ledger.specs.Ledgers.{LaneReportTellsLedger}
-use Rattle.lane_ledger.specs.Standings.{LaneReportTellsStandings}
+use Rattle.report_ledger.specs.Asked.{LaneReportTellsStarts}
+use Rattle.report_ledger.specs.Fronts.{LaneFrontsTellLedgers}
+use Rattle.report_ledger.specs.Ledgers.{LaneReportTellsLedger}
+use Rattle.report_ledger.specs.Standings.{LaneReportTellsStandings}
 use Rattle.line_cli.specs.Deeds.{EachFrontTellsItsLedger, EachReportTellsItsLedger, EachReportTellsItsStandings, EachReportTellsItsStarts}
 use Rattle.line_cli.specs.Report.{ending}
 use Rattle.line_cli.specs.Script.{Refusal, script_of}

@@ -14,7 +14,7 @@ use Rattle.line_lanes.specs.Lanes.{Lanes, lines_of}
 use Rattle.line_lanes.specs.Parts.{IsLaneRun, LanePoint, all_points, all_told}
 use Rattle.line_lanes.specs.Views.{lanes_text, summary_on}
 use Rattle.line_lanes.proofs.ScriptRuns.{RunsOn, line-counted, one-told, points-append, run-append, run-one, runs-on, runs-told}
-use Rattle.lane_ledger.specs.Proper.{AreProperOn, ArePointsProper, IsProperOn}
+use Rattle.report_ledger.specs.Proper.{AreProperOn, ArePointsProper, IsProperOn}
 use Rattle.line_cli.specs.LineEnds.{HasNoEnd}
 use Rattle.line_cli.specs.Texts.{refused_text}
 use Rattle.line_cli.specs.Script.{Script, meaning_at, script_from, behind_lines}

@@ -5,7 +5,7 @@ use Rattle.line_outside.specs.Sink.{Grows, PushesAll}
 use Rattle.line_outside.specs.declared.pushing.Pushed.{Pushed}
 use Rattle.line_cli.specs.Script.{Refusal, script_of}
 use Rattle.line_cli.specs.Deeds.{IsToldFirst}
-use Rattle.lane_ledger.specs.Proper.{ArePointsProper}
+use Rattle.report_ledger.specs.Proper.{ArePointsProper}
 use Rattle.line_cli.specs.Report.{BeginsReport, report_text}
 use Rattle.line_cli.specs.Stops.{StopsIn}
 use Rattle.line_lanes.specs.Lanes.{no_lanes}

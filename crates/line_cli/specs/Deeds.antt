@@ -7,11 +7,11 @@ use Rattle.line_lanes.specs.Parts.{IsLaneRun, LanePoint, all_points, state_behin
 use Rattle.line_lanes.specs.Views.{lanes_text}
 use Rattle.report_ledger.specs.Ledgers.{AreUnnumbered}
 use Rattle.report_ledger.specs.ReportLines.{lines_in, vouched}
-use Rattle.lane_ledger.specs.Asked.{OpensWereAskedOn}
-use Rattle.lane_ledger.specs.Fronts.{LaneFrontTells}
-use Rattle.lane_ledger.specs.Ledgers.{TellsLaneLedger, honest_on}
-use Rattle.lane_ledger.specs.Proper.{ArePointsProper}
-use Rattle.lane_ledger.specs.Standings.{TellsLaneStandings}
+use Rattle.report_ledger.specs.Asked.{OpensWereAskedOn}
+use Rattle.report_ledger.specs.Fronts.{LaneFrontTells}
+use Rattle.report_ledger.specs.Ledgers.{TellsLaneLedger, honest_on}
+use Rattle.report_ledger.specs.Proper.{ArePointsProper}
+use Rattle.report_ledger.specs.Standings.{TellsLaneStandings}
 use Rattle.line_cli.specs.Report.{report_text}
 use Rattle.line_cli.specs.Script.{script_of}
 

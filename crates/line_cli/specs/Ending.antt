@@ -7,7 +7,7 @@ use Rattle.line_script.specs.declared.line.LaneLine.{LaneLine}
 use Rattle.line_lanes.specs.Lanes.{no_lanes}
 use Rattle.line_lanes.specs.Parts.{IsLaneRun, LanePoint, all_points, state_behind}
 use Rattle.line_lanes.specs.Views.{lanes_text}
-use Rattle.lane_ledger.specs.Proper.{ArePointsProper}
+use Rattle.report_ledger.specs.Proper.{ArePointsProper}
 use Rattle.line_cli.specs.Script.{script_of, behind_lines}
 use Rattle.line_cli.specs.Reader.{Place, script_behind}
 use Rattle.line_cli.specs.declared.script_run.RunError.{RunError}

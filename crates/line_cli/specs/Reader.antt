@@ -8,7 +8,7 @@ use Rattle.line_report.specs.declared.happening.LaneHappening.{LaneHappening}
 use Rattle.line_lanes.specs.Lanes.{Lanes, lines_of}
 use Rattle.line_lanes.specs.Parts.{IsLaneRun, LaneLineSteps, LanePoint, all_points, state_behind}
 use Rattle.line_lanes.specs.Views.{lanes_text, summary_on}
-use Rattle.lane_ledger.specs.Proper.{AreProperOn, ArePointsProper}
+use Rattle.report_ledger.specs.Proper.{AreProperOn, ArePointsProper}
 use Rattle.line_cli.specs.Texts.{refused_text}
 use Rattle.line_cli.specs.Script.{Script, meaning_at, script_from, behind_lines}
 use Rattle.line_cli.specs.declared.script_run.RunError.{RunError}

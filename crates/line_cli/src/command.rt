@@ -160,10 +160,10 @@ pub fn line_main<S: Source, K: Sink>(
     one_standing::laws::one_standing_after_each_line();
     one_standing::laws::the_custody_facts_hold_after_each_line();
     one_standing::laws::the_ledger_follows_the_report();
-    lane_ledger::laws::a_report_tells_the_ledger_of_each_lane();
-    lane_ledger::laws::a_report_tells_the_standings_of_each_lane();
-    lane_ledger::laws::a_report_tells_the_starts_of_each_lane();
-    lane_ledger::laws::a_front_tells_the_ledger_of_each_lane();
+    report_ledger::laws::a_report_tells_the_ledger_of_each_lane();
+    report_ledger::laws::a_report_tells_the_standings_of_each_lane();
+    report_ledger::laws::a_report_tells_the_starts_of_each_lane();
+    report_ledger::laws::a_front_tells_the_ledger_of_each_lane();
     first_in_first_out::laws::boards_go_in_the_order_in_which_they_came();
     contents_kept::laws::contents_are_kept_over_each_line();
     contents_kept::laws::contents_stay_whole();

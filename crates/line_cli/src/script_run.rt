@@ -3,11 +3,11 @@ ghost use Rattle.line_lanes.specs.Lanes.{lines_of, no_lanes, unvouched_of};
 ghost use Rattle.line_script.specs.Ranges.{IsLaneWithin};
 ghost use Rattle.line_cli.specs.Reader.{DoesAsked, DoesLine, IsNumbered, RefusesAs, Sums};
 
-use lane_ledger::lanes_are_proper;
 use line_base::Memory;
 use line_engine::Line;
 use line_report::{write_all, write_summary};
 use line_script::{LaneLine, LineError, LineWhy, MOST_LINE_BYTES, read_line};
+use report_ledger::lanes_are_proper;
 use std::alloc::Global;
 use std::io::Write;
 use std::marker::Model;

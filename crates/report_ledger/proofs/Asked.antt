@@ -1,220 +1,405 @@
--- Each opening that a report's bytes tell answers the last start that they told at its gap.
-use Rattle.std.proofs.Common.{◌≡◌, ◌≤◌, ◌<◌, ◌^◌, ◌∙◌, sym, ap, refl, subst, ℕ, ◌+◌, ◌-◌, ◌==◌, Bool, true, false, List, [], ◌∷◌, ◌++◌, Option, Some, append_assoc, append-nil, arith, codes, decimal, if◌then◌else◌}
-use Rattle.std.proofs.lemmas.Bool.{eq-eqb, eqb-true}
+-- Each opening on a lane that a report's bytes tell answers the last start that they told at its gap
+-- there.
+use Rattle.std.proofs.Common.{◌≡◌, ◌≤◌, ◌<◌, ◌^◌, ◌⊎◌, inl, inr, ◌∙◌, sym, ap, refl, subst, ℕ, ◌+◌, ◌-◌, ◌==◌, Bool, true, false, List, [], ◌∷◌, ◌++◌, Option, Some, append_assoc, append-nil, arith, codes, if◌then◌else◌, length, take_all}
 use Rattle.std.specs.List.{AllByRecursion}
 use Rattle.std.proofs.lemmas.List.Elements.{recursion_from_All}
 use Rattle.board_record.specs.BoardId.{id_text}
-use Rattle.board_record.proofs.IdTexts.{read_id-id_text}
 use Rattle.hermes_vertical.specs.declared.message.Vertical.{Vertical}
 use Rattle.hermes_vertical.specs.declared.message.Vertical.TheVariants as verticals
-use Rattle.line_check.specs.LogLine.{id_in, id_of}
+use Rattle.line_check.specs.LogLine.{id_of}
 use Rattle.line_check.specs.Words.{cut_at_space}
-use Rattle.line_history.specs.Opened.{IsStartedFor, OpensAsStarted, OpensWhatStarted, WhatOpensStarted, gap_deed, gap_deeds, opens_at}
-use Rattle.line_report.specs.Texts.{act_text, deed_text, happening_text, told_text as body_text}
+use Rattle.line_history.specs.Opened.{OpensAsStarted, OpensWhatStarted, WhatOpensStarted, gap_deed, gap_deeds, if_it, is_above, is_below, opens_at}
+use Rattle.line_report.specs.Texts.{act_on, deed_on, happening_on, place_text, told_text as body_text}
 use Rattle.line_report.specs.declared.happening.Happening.{Happening}
 use Rattle.line_report.specs.declared.happening.Happening.TheVariants as happenings
-use Rattle.line_step.specs.Runs.{Point, told_text}
-use Rattle.line_step.specs.Parts.{lines_played, script_parts}
-use Rattle.line_step.proofs.Newcomers.{played-honest}
-use Rattle.line_step.proofs.Playing.{play-run, script-short}
-use Rattle.one_standing.proofs.Playing.{script_played_fit}
-use Rattle.report_ledger.proofs.Alone.{script_alone}
+use Rattle.line_report.specs.declared.happening.LaneHappening.{LaneHappening}
+use Rattle.line_step.specs.Runs.{Point}
 use Rattle.line_step.specs.State.{LineState, no_line}
+use Rattle.line_lanes.specs.Along.{ArePointsOn, EachFrontIsATrack, IsHonestTrackOf, all_done, happening_for, is_done, part_for, told_for}
+use Rattle.line_lanes.specs.Lanes.{lines_of, no_lanes}
+use Rattle.line_lanes.specs.Parts.{LanePoint, all_points}
+use Rattle.line_lanes.specs.Views.{lanes_text}
+use Rattle.line_lanes.proofs.ScriptRuns.{run-short}
 use Rattle.machine_log.specs.Account.{IsProperAct, id_of_deed}
 use Rattle.node_core.specs.declared.act.Act.{Act}
 use Rattle.node_core.specs.declared.act.Act.TheVariants as acts
 use Rattle.node_core.specs.declared.act.Deed.{Deed}
 use Rattle.node_core.specs.declared.act.Deed.TheVariants as deeds
 use Rattle.node_core.specs.declared.act.Setting.TheVariants as settings
-use Rattle.running_logs.proofs.LineTexts.{cut_spaced, number_bytes, value_is}
-use Rattle.report_ledger.specs.Asked.{IsAskedFor, OpensWereAsked, ReportTellsStarts, deed_of_id, gap_told, line_tells, placed, told_at}
-use Rattle.report_ledger.specs.Ledgers.{AreUnnumbered, honest}
-use Rattle.report_ledger.specs.Proper.{AreProperPoints, IsProperHappening}
+use Rattle.report_ledger.specs.Asked.{IsAsked, deed_of_id, IsAskedForOn, LaneReportTellsStarts, OpensWereAskedOn, gap_told_on, line_tells_on, placed_on, told_at_on}
+use Rattle.report_ledger.specs.Ledgers.{AreUnnumbered, honest_on}
+use Rattle.report_ledger.specs.Places.{number_of}
+use Rattle.report_ledger.specs.Proper.{IsProperHappening, ArePointsProper, IsProperOn}
 use Rattle.report_ledger.specs.ReportLines.{ReportLine, lines_in, vouched}
+use Rattle.report_ledger.proofs.Alone.{run_alone}
+use Rattle.report_ledger.proofs.Deeds.{id_read}
+use Rattle.report_ledger.proofs.GapDeeds.{above_is, below_is, deeds_append, neither, opens_is}
 use Rattle.report_ledger.proofs.Ledgered.{front_of, honest_proper}
-use Rattle.report_ledger.proofs.Lines.{line_with, lines_told, run_lines, run_read}
+use Rattle.report_ledger.proofs.Lines.{line_with, lines_told, run_lines, run_read, text_of}
 use Rattle.report_ledger.proofs.Vouched.{Vouches, run_vouched}
+use Rattle.report_ledger.proofs.Words.{cut_solid, place_word, solid_place}
 
--- ---- what a text tells of a gap
+-- ---- what a text tells of a gap of a lane
 
-id_read : (id : ℕ) → id < 2 ^ 128 → id_of (id_text id) ≡ Some id
-id_read id fits = ap id_in (read_id-id_text id fits)
+abbrev if_here : ℕ → ℕ → List Deed → List Deed
+if_here own lane all = if own == lane then all else []
 
-place_read : (gap : ℕ) (deed : ℕ → Deed) (number id : ℕ) → number < 2 ^ 32 → id < 2 ^ 128 → placed gap deed (cut_at_space ((decimal number ++ codes " ") ++ id_text id)) ≡ (if number == gap then deed id ∷ [] else [])
-place_read gap deed number id small fits =
-    ap (placed gap deed) (cut_spaced (decimal number) (id_text id) (number_bytes number (omega (arith, small))))
-    ∙ ap (λ (v : ℕ). if v == gap then deed_of_id deed (id_of (id_text id)) else []) (value_is number (omega (arith, small)))
-    ∙ ap (λ (o : Option ℕ). if number == gap then deed_of_id deed o else []) (id_read id fits)
+place_read : (lane own gap : ℕ) (deed : ℕ → Deed) (number id : ℕ) → own < 2 ^ 32
+    → number < 2 ^ 32 → id < 2 ^ 128
+    → placed_on lane gap deed (cut_at_space ((place_text own number ++ codes " ") ++ id_text id))
+    ≡ if_here own lane (if number == gap then deed id ∷ [] else [])
+place_read lane own gap deed number id few small fits =
+    let word = place_word own number few small in
+    let told = deed_of_id deed (id_of (id_text id)) in
+    ap (placed_on lane gap deed)
+    (cut_solid (place_text own number) (id_text id) (solid_place own number))
+    ∙ ap (λ (l : ℕ). if l == lane
+    then (if number_of (place_text own number) == gap then told else []) else []) word.lane_is
+    ∙ ap (λ (n : ℕ). if_here own lane (if n == gap then told else [])) word.number_is
+    ∙ ap (λ (o : Option ℕ). if_here own lane (if number == gap then deed_of_id deed o else []))
+    (id_read id fits)
 
--- a deed of the machine above a gap, and one of the machine below
-pub above_is : (gap machine : ℕ) (deed : Deed) → (if machine == gap then deed ∷ [] else []) ≡ (if machine == gap then deed ∷ [] else (if machine == gap + 1 then [] else []))
-above_is gap machine deed = by (machine == gap) (machine == gap + 1) where
-  by : (one other : Bool) → (if one then deed ∷ [] else []) ≡ (if one then deed ∷ [] else (if other then [] else []))
-  by true other = refl
-  by false true = refl
-  by false false = refl
+none_if : (here : Bool) → ◌≡◌ {A = List Deed} [] (if here then [] else [])
+none_if true = refl
+none_if false = refl
 
-pub below_is : (gap machine : ℕ) (deed : Deed) → 1 ≤ gap → (if machine - 1 == gap then deed ∷ [] else []) ≡ (if machine == gap then [] else (if machine == gap + 1 then deed ∷ [] else []))
-below_is gap machine deed some = by (machine - 1 == gap) (machine == gap) (machine == gap + 1) refl refl refl where
-  by : (one two three : Bool) → (machine - 1 == gap) ≡ one → (machine == gap) ≡ two → (machine == gap + 1) ≡ three → (if one then deed ∷ [] else []) ≡ (if two then [] else (if three then deed ∷ [] else []))
-  by true true three a b c = absurd (let x = eqb-true (machine - 1) gap a in let y = eqb-true machine gap b in omega (arith, x, y, some))
-  by true false true a b c = refl
-  by true false false a b c =
-      let x = eqb-true (machine - 1) gap a in
-      let y : machine ≡ gap + 1 = omega (arith, x, some) in
-      let h : true ≡ false = sym (eq-eqb machine (gap + 1) y) ∙ c in
-      absurd (cc)
-  by false true three a b c = refl
-  by false false true a b c =
-      let y = eqb-true machine (gap + 1) c in
-      let x : machine - 1 ≡ gap = omega (arith, y) in
-      let h : true ≡ false = sym (eq-eqb (machine - 1) gap x) ∙ a in
-      absurd (cc)
-  by false false false a b c = refl
+-- what a machine did on its lane
+abbrev done_there : ℕ → ℕ → ℕ → Happening → List Deed
+done_there lane own gap happening = if_here own lane (gap_deed gap happening)
 
--- what is above, or below, of other deeds is nothing
-pub neither : (gap machine : ℕ) → ◌≡◌ {A = List Deed} [] (if machine == gap then [] else (if machine == gap + 1 then [] else []))
-neither gap machine = by (machine == gap) (machine == gap + 1) where
-  by : (one other : Bool) → ◌≡◌ {A = List Deed} [] (if one then [] else (if other then [] else []))
-  by true other = refl
-  by false true = refl
-  by false false = refl
+neither_there : (lane own gap machine : ℕ) (deed : Deed) → is_above deed ≡ false
+    → is_below deed ≡ false
+    → ◌≡◌ {A = List Deed} [] (done_there lane own gap (happenings.Done machine (acts.Deed deed)))
+neither_there lane own gap machine deed over under =
+    none_if (own == lane)
+    ∙ ap (if_here own lane)
+    (neither gap machine
+    ∙ ap (λ (b : Bool). if machine == gap then if_it b deed
+    else (if machine == gap + 1 then [] else [])) (sym over)
+    ∙ ap (λ (b : Bool). if machine == gap then if_it (is_above deed) deed
+    else (if machine == gap + 1 then if_it b deed else [])) (sym under))
 
-deed_reads : (gap machine : ℕ) (deed : Deed) → 1 ≤ gap → machine < 2 ^ 32 → id_of_deed deed < 2 ^ 128 → told_at gap (deed_text machine deed) ≡ gap_deed gap (happenings.Done machine (acts.Deed deed))
-deed_reads gap machine (deeds.Opens id) some small fits = place_read gap deeds.Opens machine id small fits ∙ above_is gap machine (deeds.Opens id)
-deed_reads gap machine (deeds.Refuses id) some small fits = place_read gap deeds.Refuses machine id small fits ∙ above_is gap machine (deeds.Refuses id)
-deed_reads gap machine (deeds.Starts id) some small fits = place_read gap deeds.Starts (machine - 1) id (omega (arith, small)) fits ∙ below_is gap machine (deeds.Starts id) some
-deed_reads gap machine (deeds.Settles id) some small fits = place_read gap deeds.Settles (machine - 1) id (omega (arith, small)) fits ∙ below_is gap machine (deeds.Settles id) some
-deed_reads gap machine (deeds.Drops id) some small fits = place_read gap deeds.Drops (machine - 1) id (omega (arith, small)) fits ∙ below_is gap machine (deeds.Drops id) some
-deed_reads gap machine (deeds.Leaves id) some small fits = neither gap machine
-deed_reads gap machine (deeds.Returns id) some small fits = neither gap machine
-deed_reads gap machine (deeds.Loses id) some small fits = neither gap machine
+deed_reads : (lane own gap machine : ℕ) (deed : Deed) → 1 ≤ gap → own < 2 ^ 32
+    → machine < 2 ^ 32 → id_of_deed deed < 2 ^ 128
+    → told_at_on lane gap (deed_on own machine deed)
+    ≡ done_there lane own gap (happenings.Done machine (acts.Deed deed))
+deed_reads lane own gap machine (deeds.Opens id) some few small fits =
+    place_read lane own gap deeds.Opens machine id few small fits
+    ∙ ap (if_here own lane) (above_is gap machine (deeds.Opens id))
+deed_reads lane own gap machine (deeds.Refuses id) some few small fits =
+    place_read lane own gap deeds.Refuses machine id few small fits
+    ∙ ap (if_here own lane) (above_is gap machine (deeds.Refuses id))
+deed_reads lane own gap machine (deeds.Starts id) some few small fits =
+    place_read lane own gap deeds.Starts (machine - 1) id few (omega (arith, small)) fits
+    ∙ ap (if_here own lane) (below_is gap machine (deeds.Starts id) some)
+deed_reads lane own gap machine (deeds.Settles id) some few small fits =
+    place_read lane own gap deeds.Settles (machine - 1) id few (omega (arith, small)) fits
+    ∙ ap (if_here own lane) (below_is gap machine (deeds.Settles id) some)
+deed_reads lane own gap machine (deeds.Drops id) some few small fits =
+    place_read lane own gap deeds.Drops (machine - 1) id few (omega (arith, small)) fits
+    ∙ ap (if_here own lane) (below_is gap machine (deeds.Drops id) some)
+deed_reads lane own gap machine (deeds.Leaves id) some few small fits =
+    neither_there lane own gap machine (deeds.Leaves id) refl refl
+deed_reads lane own gap machine (deeds.Returns id) some few small fits =
+    neither_there lane own gap machine (deeds.Returns id) refl refl
+deed_reads lane own gap machine (deeds.Loses id) some few small fits =
+    neither_there lane own gap machine (deeds.Loses id) refl refl
 
-body_reads : (gap machine : ℕ) (body : Vertical) → told_at gap (body_text machine body) ≡ []
-body_reads gap machine (verticals.BoardArrived passage) = refl
-body_reads gap machine (verticals.BoardDeparted passage) = refl
-body_reads gap machine (verticals.QueryWorkOrderInfo query question) = refl
-body_reads gap machine (verticals.SupervisoryServiceDescription system) = refl
-body_reads gap machine (verticals.SendWorkOrderInfo query order batch product) = refl
-body_reads gap machine (verticals.CheckAlive ping id) = refl
-body_reads gap machine (verticals.Notification code severity text) = refl
-body_reads gap machine (verticals.Other name) = refl
+body_reads : (lane gap machine : ℕ) (body : Vertical)
+    → told_at_on lane gap (body_text machine body) ≡ []
+body_reads lane gap machine (verticals.BoardArrived passage) = refl
+body_reads lane gap machine (verticals.BoardDeparted passage) = refl
+body_reads lane gap machine (verticals.QueryWorkOrderInfo query question) = refl
+body_reads lane gap machine (verticals.SupervisoryServiceDescription system) = refl
+body_reads lane gap machine (verticals.SendWorkOrderInfo query order batch product) = refl
+body_reads lane gap machine (verticals.CheckAlive ping id) = refl
+body_reads lane gap machine (verticals.Notification code severity text) = refl
+body_reads lane gap machine (verticals.Other name) = refl
 
-act_reads : (gap machine : ℕ) (act : Act) → 1 ≤ gap → machine < 2 ^ 32 → IsProperAct act → told_at gap (act_text machine act) ≡ gap_deed gap (happenings.Done machine act)
-act_reads gap machine (acts.Deed deed) some small proper = deed_reads gap machine deed some small proper
-act_reads gap machine (acts.Tells message) some small proper = body_reads gap machine message.body
-act_reads gap machine (acts.Sets (settings.Will side true)) some small proper = refl
-act_reads gap machine _ some small proper = refl
+act_reads : (lane own gap machine : ℕ) (act : Act) → 1 ≤ gap → own < 2 ^ 32 → machine < 2 ^ 32
+    → IsProperAct act
+    → told_at_on lane gap (act_on own machine act)
+    ≡ done_there lane own gap (happenings.Done machine act)
+act_reads lane own gap machine (acts.Deed deed) some few small proper =
+    deed_reads lane own gap machine deed some few small proper
+act_reads lane own gap machine (acts.Tells message) some few small proper =
+    body_reads lane gap machine message.body ∙ none_if (own == lane)
+act_reads lane own gap machine (acts.Sets (settings.Will side true)) some few small proper =
+    none_if (own == lane)
+act_reads lane own gap machine _ some few small proper = none_if (own == lane)
 
-happening_reads : (gap : ℕ) (happening : Happening) → 1 ≤ gap → IsProperHappening happening → told_at gap (happening_text happening) ≡ gap_deed gap happening
-happening_reads gap (happenings.Done machine act) some proper = act_reads gap machine act some proper.0 proper.1
-happening_reads gap (happenings.Lanes count) some proper = refl
-happening_reads gap (happenings.Machine number capacity) some proper = refl
-happening_reads gap (happenings.Bridge number capacity) some proper = refl
-happening_reads gap (happenings.Cut other) some proper = refl
-happening_reads gap (happenings.Stop machine) some proper = refl
-happening_reads gap (happenings.Spoils machine side) some proper = refl
-happening_reads gap (happenings.Moved other step) some proper = refl
-happening_reads gap (happenings.Lie machine sensed) some proper = refl
-happening_reads gap (happenings.Unseen machine side) some proper = refl
-happening_reads gap happenings.Unvouched some proper = refl
-happening_reads gap (happenings.No reason) some proper = refl
-happening_reads gap (happenings.Shown machine id quality) some proper = refl
-happening_reads gap (happenings.ShownBetween other id) some proper = refl
-happening_reads gap (happenings.With machine id) some proper = refl
-happening_reads gap (happenings.Between other id) some proper = refl
-happening_reads gap (happenings.Gone id) some proper = refl
+happening_reads : (lane own gap : ℕ) (happening : Happening) → 1 ≤ gap → own < 2 ^ 32
+    → IsProperHappening happening
+    → told_at_on lane gap (happening_on own happening) ≡ done_there lane own gap happening
+happening_reads lane own gap (happenings.Done machine act) some few proper =
+    act_reads lane own gap machine act some few proper.0 proper.1
+happening_reads lane own gap (happenings.Lanes count) some few proper = none_if (own == lane)
+happening_reads lane own gap (happenings.Machine number capacity) some few proper =
+    none_if (own == lane)
+happening_reads lane own gap (happenings.Bridge number capacity) some few proper =
+    none_if (own == lane)
+happening_reads lane own gap (happenings.Cut other) some few proper = none_if (own == lane)
+happening_reads lane own gap (happenings.Stop machine) some few proper = none_if (own == lane)
+happening_reads lane own gap (happenings.Spoils machine side) some few proper = none_if (own == lane)
+happening_reads lane own gap (happenings.Moved other step) some few proper = none_if (own == lane)
+happening_reads lane own gap (happenings.Lie machine sensed) some few proper = none_if (own == lane)
+happening_reads lane own gap (happenings.Unseen machine side) some few proper = none_if (own == lane)
+happening_reads lane own gap happenings.Unvouched some few proper = none_if (own == lane)
+happening_reads lane own gap (happenings.No reason) some few proper = none_if (own == lane)
+happening_reads lane own gap (happenings.Shown machine id quality) some few proper =
+    none_if (own == lane)
+happening_reads lane own gap (happenings.ShownBetween other id) some few proper =
+    none_if (own == lane)
+happening_reads lane own gap (happenings.With machine id) some few proper = none_if (own == lane)
+happening_reads lane own gap (happenings.Between other id) some few proper = none_if (own == lane)
+happening_reads lane own gap (happenings.Gone id) some few proper = none_if (own == lane)
 
--- ---- one line more
+-- as what is told of the lane
+deeds_if : (gap : ℕ) (here : Bool) (happening : Happening)
+    → (if here then gap_deed gap happening else [])
+    ≡ gap_deeds gap (if here then happening ∷ [] else [])
+deeds_if gap true happening = sym (append-nil (gap_deed gap happening))
+deeds_if gap false happening = refl
 
-gap_append : (gap : ℕ) (a b : List ReportLine) → gap_told gap (a ++ b) ≡ gap_told gap a ++ gap_told gap b
-gap_append gap [] b = refl
-gap_append gap (line ∷ a) b = ap (λ (ds : List Deed). line_tells gap line.number line.text ++ ds) (gap_append gap a b) ∙ sym (append_assoc (line_tells gap line.number line.text) (gap_told gap a) (gap_told gap b))
+none_moved : (gap machine id to : ℕ) (one here there : Bool)
+    → ◌≡◌ {A = List Deed} (if one then [] else [])
+    (gap_deeds gap ((if here then happenings.Done machine (acts.Gives id to) ∷ [] else [])
+    ++ (if there then happenings.Done machine (acts.Gets id) ∷ [] else [])))
+none_moved gap machine id to true true true = refl
+none_moved gap machine id to true true false = refl
+none_moved gap machine id to true false true = refl
+none_moved gap machine id to true false false = refl
+none_moved gap machine id to false true true = refl
+none_moved gap machine id to false true false = refl
+none_moved gap machine id to false false true = refl
+none_moved gap machine id to false false false = refl
 
-pub deeds_append : (gap : ℕ) (a b : List Happening) → gap_deeds gap (a ++ b) ≡ gap_deeds gap a ++ gap_deeds gap b
-deeds_append gap [] b = refl
-deeds_append gap (h ∷ a) b = ap (λ (ds : List Deed). gap_deed gap h ++ ds) (deeds_append gap a b) ∙ sym (append_assoc (gap_deed gap h) (gap_deeds gap a) (gap_deeds gap b))
+part_is : (lane own gap : ℕ) (happening : Happening)
+    → done_there lane own gap happening ≡ gap_deeds gap (part_for lane own happening)
+part_is lane own gap (happenings.Done machine (acts.Gives id to)) =
+    none_moved gap machine id to (own == lane) (own == lane) (to == lane)
+part_is lane own gap happening = deeds_if gap (own == lane) happening
 
-one_more : (gap number : ℕ) (before : List ReportLine) (past : List Happening) (happening : Happening) → 1 ≤ gap → IsProperHappening happening → gap_told gap before ≡ gap_deeds gap past → gap_told gap (before ++ line_with (Some number) (happening_text happening) ∷ []) ≡ gap_deeds gap (past ++ happening ∷ [])
-one_more gap number before past happening some proper same =
-    gap_append gap before (line_with (Some number) (happening_text happening) ∷ [])
-    ∙ ap (λ (ds : List Deed). ds ++ (told_at gap (happening_text happening) ++ [])) same
-    ∙ ap (λ (ds : List Deed). gap_deeds gap past ++ (ds ++ [])) (happening_reads gap happening some proper)
-    ∙ sym (deeds_append gap past (happening ∷ []))
+text_reads : (lane gap : ℕ) (happening : LaneHappening) → 1 ≤ gap → IsProperOn happening
+    → told_at_on lane gap (text_of happening) ≡ gap_deeds gap (happening_for lane happening)
+text_reads lane gap happening some proper =
+    happening_reads lane happening.lane gap happening.what some proper.0 proper.1
+    ∙ part_is lane happening.lane gap happening.what
 
--- what opens at a gap is told by the machine above it
-pub opens_is : (gap : ℕ) (happening : Happening) (id : ℕ) → gap_deed gap happening ≡ deeds.Opens id ∷ [] → happening ≡ opens_at gap id
-opens_is gap (happenings.Done machine (acts.Deed (deeds.Opens other))) id is = by (machine == gap) (machine == gap + 1) refl is where
-  by : (one two : Bool) → (machine == gap) ≡ one → (if one then deeds.Opens other ∷ [] else (if two then [] else [])) ≡ deeds.Opens id ∷ [] → happenings.Done machine (acts.Deed (deeds.Opens other)) ≡ opens_at gap id
-  by true two same is =
-      let x : machine ≡ gap = eqb-true machine gap same in
-      let y : other ≡ id = cc in
-      ap (λ (m : ℕ). happenings.Done m (acts.Deed (deeds.Opens other))) x ∙ ap (λ (i : ℕ). happenings.Done gap (acts.Deed (deeds.Opens i))) y
-  by false true same is = cc
-  by false false same is = cc
-opens_is gap (happenings.Done machine (acts.Deed (deeds.Refuses other))) id is = by (machine == gap) (machine == gap + 1) is where
-  by : (one two : Bool) → (if one then deeds.Refuses other ∷ [] else (if two then [] else [])) ≡ deeds.Opens id ∷ [] → happenings.Done machine (acts.Deed (deeds.Refuses other)) ≡ opens_at gap id
-  by true two is = cc
-  by false true is = cc
-  by false false is = cc
-opens_is gap (happenings.Done machine (acts.Deed (deeds.Starts other))) id is = by (machine == gap) (machine == gap + 1) is where
-  by : (one two : Bool) → (if one then [] else (if two then deeds.Starts other ∷ [] else [])) ≡ deeds.Opens id ∷ [] → happenings.Done machine (acts.Deed (deeds.Starts other)) ≡ opens_at gap id
-  by true two is = cc
-  by false true is = cc
-  by false false is = cc
-opens_is gap (happenings.Done machine (acts.Deed (deeds.Settles other))) id is = by (machine == gap) (machine == gap + 1) is where
-  by : (one two : Bool) → (if one then [] else (if two then deeds.Settles other ∷ [] else [])) ≡ deeds.Opens id ∷ [] → happenings.Done machine (acts.Deed (deeds.Settles other)) ≡ opens_at gap id
-  by true two is = cc
-  by false true is = cc
-  by false false is = cc
-opens_is gap (happenings.Done machine (acts.Deed (deeds.Drops other))) id is = by (machine == gap) (machine == gap + 1) is where
-  by : (one two : Bool) → (if one then [] else (if two then deeds.Drops other ∷ [] else [])) ≡ deeds.Opens id ∷ [] → happenings.Done machine (acts.Deed (deeds.Drops other)) ≡ opens_at gap id
-  by true two is = cc
-  by false true is = cc
-  by false false is = cc
-opens_is gap (happenings.Done machine (acts.Deed (deeds.Leaves other))) id is = absurd (let h = neither gap machine ∙ is in cc)
-opens_is gap (happenings.Done machine (acts.Deed (deeds.Returns other))) id is = absurd (let h = neither gap machine ∙ is in cc)
-opens_is gap (happenings.Done machine (acts.Deed (deeds.Loses other))) id is = absurd (let h = neither gap machine ∙ is in cc)
-opens_is gap _ id is = cc
+-- ---- what a track told
+
+undone_deeds : (gap : ℕ) (h : Happening) → is_done h ≡ false → gap_deed gap h ≡ []
+undone_deeds gap (happenings.Done machine act) is = absurd (let never : true ≡ false = is in cc)
+undone_deeds gap _ is = refl
+
+done_by : (gap : ℕ) (test : Bool) (h : Happening) (told : List Happening) → is_done h ≡ test
+    → gap_deeds gap told ≡ gap_deeds gap (all_done told)
+    → gap_deed gap h ++ gap_deeds gap told
+    ≡ gap_deeds gap (if test then h ∷ all_done told else all_done told)
+done_by gap true h told is same = ap (λ (ds : List Deed). gap_deed gap h ++ ds) same
+done_by gap false h told is same =
+    ap (λ (ds : List Deed). ds ++ gap_deeds gap told) (undone_deeds gap h is) ∙ same
+
+done_deeds : (gap : ℕ) (told : List Happening) → gap_deeds gap told ≡ gap_deeds gap (all_done told)
+done_deeds gap [] = refl
+done_deeds gap (h ∷ told) = done_by gap (is_done h) h told refl (done_deeds gap told)
+
+same_deeds : (gap : ℕ) (a b : List Happening) → all_done a ≡ all_done b
+    → gap_deeds gap a ≡ gap_deeds gap b
+same_deeds gap a b same = done_deeds gap a ∙ ap (gap_deeds gap) same ∙ sym (done_deeds gap b)
+
+-- ---- an opening among the deeds of a gap is one among what was told
+
+-- what is told of a gap of one thing is one deed or none
+one_or_none : (gap : ℕ) (h : Happening)
+    → (gap_deed gap h ≡ []) ⊎ ((deed : Deed) × (gap_deed gap h ≡ deed ∷ []))
+one_or_none gap (happenings.Done machine (acts.Deed deed)) =
+    by (machine == gap) (machine == gap + 1) (is_above deed) (is_below deed) where
+      by : (one two over under : Bool)
+          → ((if one then if_it over deed else (if two then if_it under deed else [])) ≡ [])
+          ⊎ ((d : Deed) × ((if one then if_it over deed else (if two then if_it under deed else [])) ≡ d ∷ []))
+      by true two true under = inr (deed, refl)
+      by true two false under = inl refl
+      by false true over true = inr (deed, refl)
+      by false true over false = inl refl
+      by false false over under = inl refl
+one_or_none gap _ = inl refl
+
+record IsOpenedAt (gap id : ℕ) (told : List Happening) (before : List Deed) : Type 0 where
+  earlier : List Happening
+  later : List Happening
+  is : told ≡ earlier ++ (opens_at gap id ∷ later)
+  told_before : gap_deeds gap earlier ≡ before
+
+opened_at : (gap id : ℕ) (told : List Happening) (before since : List Deed)
+    → gap_deeds gap told ≡ before ++ (deeds.Opens id ∷ since) → IsOpenedAt gap id told before
+opened_at gap id [] [] since is = absurd (let never : ◌≡◌ {A = List Deed} [] (deeds.Opens id ∷ since) = is in cc)
+opened_at gap id [] (d ∷ before) since is =
+    absurd (let never : ◌≡◌ {A = List Deed} [] (d ∷ (before ++ (deeds.Opens id ∷ since))) = is in cc)
+opened_at gap id (h ∷ told) before since is =
+    by before is (one_or_none gap h) (λ front same. opened_at gap id told front since same) where
+      by : (before : List Deed)
+          → gap_deed gap h ++ gap_deeds gap told ≡ before ++ (deeds.Opens id ∷ since)
+          → (gap_deed gap h ≡ []) ⊎ ((deed : Deed) × (gap_deed gap h ≡ deed ∷ []))
+          → ((front : List Deed) → gap_deeds gap told ≡ front ++ (deeds.Opens id ∷ since)
+          → IsOpenedAt gap id told front)
+          → IsOpenedAt gap id (h ∷ told) before
+      by before is (inl none) later =
+          let rest = later before (ap (λ (ds : List Deed). ds ++ gap_deeds gap told) (sym none) ∙ is) in
+          record {
+            earlier = h ∷ rest.earlier;
+            later = rest.later;
+            is = ap (λ (l : List Happening). h ∷ l) rest.is;
+            told_before = ap (λ (ds : List Deed). ds ++ gap_deeds gap rest.earlier) none
+                ∙ rest.told_before;
+          }
+      by [] is (inr (deed, one)) later =
+          let same : deed ∷ gap_deeds gap told ≡ deeds.Opens id ∷ since =
+          ap (λ (ds : List Deed). ds ++ gap_deeds gap told) (sym one) ∙ is in
+          let opens : deed ≡ deeds.Opens id = cc in
+          record {
+            earlier = [];
+            later = told;
+            is = ap (λ (x : Happening). x ∷ told)
+                (opens_is gap h id (one ∙ ap (λ (d : Deed). d ∷ []) opens));
+            told_before = refl;
+          }
+      by (d ∷ before) is (inr (deed, one)) later =
+          let same : deed ∷ gap_deeds gap told ≡ d ∷ (before ++ (deeds.Opens id ∷ since)) =
+          ap (λ (ds : List Deed). ds ++ gap_deeds gap told) (sym one) ∙ is in
+          let first : deed ≡ d = cc in
+          let others : gap_deeds gap told ≡ before ++ (deeds.Opens id ∷ since) = cc in
+          let rest = later before others in
+          record {
+            earlier = h ∷ rest.earlier;
+            later = rest.later;
+            is = ap (λ (l : List Happening). h ∷ l) rest.is;
+            told_before = ap (λ (ds : List Deed). ds ++ gap_deeds gap rest.earlier) one
+                ∙ ap (λ (x : Deed). x ∷ gap_deeds gap rest.earlier) first
+                ∙ ap (λ (ds : List Deed). d ∷ ds) rest.told_before;
+          }
+
+-- ---- THE DEEDS OF A GAP of a line: where one opens, it was asked for
+
+abbrev AskedAmong : List Deed → List Deed → Type 0
+AskedAmong past told =
+    (before since : List Deed) (id : ℕ) → told ≡ before ++ (deeds.Opens id ∷ since)
+    → IsAsked id (past ++ before)
+
+started_among : (gap : ℕ) (past : List Happening) (s : LineState) (told : List Happening)
+    → OpensAsStarted gap past s told → AskedAmong (gap_deeds gap past) (gap_deeds gap told)
+started_among gap past s told started before since id is =
+    let at = opened_at gap id told before since is in
+    let found = started at.earlier at.later id at.is in
+    subst (IsAsked id) (ap (λ (ds : List Deed). gap_deeds gap past ++ ds) at.told_before)
+    (subst (IsAsked id) (deeds_append gap past at.earlier)
+    (record {
+      before = found.before;
+      since = found.since;
+      told_is = found.told_is;
+      last = found.last;
+    }))
 
 -- ---- along the lines
 
-told_asked : (gap number : ℕ) (past earlier rest told : List Happening) (s : LineState) (before later : List ReportLine) → 1 ≤ gap → AllByRecursion IsProperHappening rest → told ≡ earlier ++ rest → OpensAsStarted gap past s told
-    → gap_told gap before ≡ gap_deeds gap (past ++ earlier)
-    → ((all : List ReportLine) → gap_told gap all ≡ gap_deeds gap (past ++ told) → OpensWereAsked gap all later)
-    → OpensWereAsked gap before (lines_told number rest ++ later)
-told_asked gap number past earlier [] told s before later some proper parts started same go = go before (same ∙ ap (λ (l : List Happening). gap_deeds gap (past ++ l)) (sym (append-nil earlier) ∙ sym parts))
-told_asked gap number past earlier (happening ∷ rest) told s before later some proper parts started same go =
-    (asked_for, told_asked gap number past (earlier ++ happening ∷ []) rest told s (before ++ line_with (Some number) (happening_text happening) ∷ []) later some proper.1 (parts ∙ sym (append_assoc earlier (happening ∷ []) rest)) started next go) where
-      asked_for : IsAskedFor gap before (line_with (Some number) (happening_text happening))
+gap_append : (lane gap : ℕ) (a b : List ReportLine)
+    → gap_told_on lane gap (a ++ b) ≡ gap_told_on lane gap a ++ gap_told_on lane gap b
+gap_append lane gap [] b = refl
+gap_append lane gap (line ∷ a) b =
+    ap (λ (ds : List Deed). line_tells_on lane gap line.number line.text ++ ds)
+    (gap_append lane gap a b)
+    ∙ sym (append_assoc (line_tells_on lane gap line.number line.text) (gap_told_on lane gap a)
+    (gap_told_on lane gap b))
+
+-- `past` was told before this line, `earlier` of it before these
+told_asked : (lane gap number : ℕ) (past earlier all : List Deed) (rest : List LaneHappening)
+    (before later : List ReportLine) → 1 ≤ gap → AllByRecursion IsProperOn rest
+    → AskedAmong past all → all ≡ earlier ++ gap_deeds gap (told_for lane rest)
+    → gap_told_on lane gap before ≡ past ++ earlier
+    → ((lines : List ReportLine) → gap_told_on lane gap lines ≡ past ++ all
+    → OpensWereAskedOn lane gap lines later)
+    → OpensWereAskedOn lane gap before (lines_told number rest ++ later)
+told_asked lane gap number past earlier all [] before later some proper asked parts same go =
+    go before (same ∙ ap (λ (ds : List Deed). past ++ ds) (sym (parts ∙ append-nil earlier)))
+told_asked lane gap number past earlier all (h ∷ rest) before later some proper asked parts same go =
+    let line = line_with (Some number) (text_of h) in
+    let here = gap_deeds gap (happening_for lane h) in
+    let behind = gap_deeds gap (told_for lane rest) in
+    let reads : line_tells_on lane gap line.number line.text ≡ here =
+    text_reads lane gap h some proper.0 in
+    let split : all ≡ earlier ++ (here ++ behind) =
+    parts ∙ ap (λ (ds : List Deed). earlier ++ ds)
+    (deeds_append gap (happening_for lane h) (told_for lane rest)) in
+    let next : gap_told_on lane gap (before ++ line ∷ []) ≡ past ++ (earlier ++ here) =
+    gap_append lane gap before (line ∷ [])
+    ∙ ap (λ (ds : List Deed). gap_told_on lane gap before ++ ds)
+    (append-nil (line_tells_on lane gap line.number line.text) ∙ reads)
+    ∙ ap (λ (ds : List Deed). ds ++ here) same ∙ append_assoc past earlier here in
+    let one : IsAskedForOn lane gap before line =
+    λ id opens. subst (IsAsked id) (sym same)
+    (asked earlier behind id
+    (split ∙ ap (λ (ds : List Deed). earlier ++ (ds ++ behind)) (sym reads ∙ opens))) in (
+      one,
+      told_asked lane gap number past (earlier ++ here) all rest (before ++ line ∷ []) later some
+          proper.1 asked (split ∙ sym (append_assoc earlier here behind)) next go,
+    )
+
+unnumbered_asked : (lane gap : ℕ) (before tail : List ReportLine) → AreUnnumbered tail
+    → OpensWereAskedOn lane gap before tail
+unnumbered_asked lane gap before [] none = tt
+unnumbered_asked lane gap before (line ∷ tail) none =
+    (asked_for, unnumbered_asked lane gap (before ++ line ∷ []) tail none.1) where
+      asked_for : IsAskedForOn lane gap before line
       asked_for id opens =
-          let is : happening ≡ opens_at gap id = opens_is gap happening id (sym (happening_reads gap happening some proper.0) ∙ opens) in
-          let found : IsStartedFor s gap id (gap_deeds gap (past ++ earlier)) = started earlier rest id (parts ∙ ap (λ (h : Happening). earlier ++ h ∷ rest) is) in
-          record { before = found.before; since = found.since; told_is = same ∙ found.told_is; last = found.last }
+          absurd (let never : ◌≡◌ {A = List Deed} [] (deeds.Opens id ∷ []) =
+          sym (ap (λ n. line_tells_on lane gap n line.text) none.0) ∙ opens in cc)
 
-      next : gap_told gap (before ++ line_with (Some number) (happening_text happening) ∷ []) ≡ gap_deeds gap (past ++ (earlier ++ happening ∷ []))
-      next = one_more gap number before (past ++ earlier) happening some proper.0 same ∙ ap (gap_deeds gap) (append_assoc past earlier (happening ∷ []))
-
-unnumbered_asked : (gap : ℕ) (before tail : List ReportLine) → AreUnnumbered tail → OpensWereAsked gap before tail
-unnumbered_asked gap before [] none = tt
-unnumbered_asked gap before (line ∷ tail) none = (asked_for, unnumbered_asked gap (before ++ line ∷ []) tail none.1) where
-  asked_for : IsAskedFor gap before line
-  asked_for id opens = absurd (let h : [] ≡ deeds.Opens id ∷ [] = sym (ap (λ (n : Option ℕ). line_tells gap n line.text) none.0) ∙ opens in cc)
-
-run_asked : (gap number : ℕ) (past : List Happening) (s : LineState) (points : List Point) (before tail : List ReportLine) → 1 ≤ gap → AreProperPoints points → AreUnnumbered tail → OpensWhatStarted gap past s points → gap_told gap before ≡ gap_deeds gap past → OpensWereAsked gap before (run_lines number points ++ tail)
-run_asked gap number past s [] before tail some proper none started same = unnumbered_asked gap before tail none
-run_asked gap number past s (point ∷ points) before tail some proper none started same =
-    subst (λ (l : List ReportLine). OpensWereAsked gap before l) (sym (append_assoc (lines_told number point.told) (run_lines (point.after.lines + 1) points) tail))
-    (told_asked gap number past [] point.told point.told s before (run_lines (point.after.lines + 1) points ++ tail) some (recursion_from_All IsProperHappening point.told proper.0.each) refl started.0 (same ∙ ap (gap_deeds gap) (sym (append-nil past)))
-    (λ all is. run_asked gap (point.after.lines + 1) (past ++ point.told) point.after points all tail some proper.1 none started.1 is))
+run_asked : (lane gap number : ℕ) (past : List Happening) (s : LineState)
+    (points : List LanePoint) (own : List Point) (before tail : List ReportLine) → 1 ≤ gap
+    → ArePointsProper points → AreUnnumbered tail → ArePointsOn lane points own
+    → OpensWhatStarted gap past s own → gap_told_on lane gap before ≡ gap_deeds gap past
+    → OpensWereAskedOn lane gap before (run_lines number points ++ tail)
+run_asked lane gap number past s [] own before tail some proper none beside started same =
+    unnumbered_asked lane gap before tail none
+run_asked lane gap number past s (point ∷ points) [] before tail some proper none beside started same =
+    absurd beside
+run_asked lane gap number past s (point ∷ points) (p ∷ own) before tail some proper none beside started same =
+    let told = gap_deeds gap (told_for lane point.told) in
+    let later = run_lines (lines_of point.after + 1) points in
+    let alike : gap_deeds gap p.told ≡ told =
+    same_deeds gap p.told (told_for lane point.told) beside.0.told in
+    let asked : AskedAmong (gap_deeds gap past) told =
+    subst (AskedAmong (gap_deeds gap past)) alike (started_among gap past s p.told started.0) in
+    subst (OpensWereAskedOn lane gap before)
+    (sym (append_assoc (lines_told number point.told) later tail))
+    (told_asked lane gap number (gap_deeds gap past) [] told point.told before (later ++ tail) some
+    (recursion_from_All IsProperOn point.told proper.0.each) asked refl
+    (same ∙ sym (append-nil (gap_deeds gap past)))
+    (λ lines is. run_asked lane gap (lines_of point.after + 1) (past ++ p.told) p.after points own
+    lines tail some proper.1 none beside.1 started.1
+    (is ∙ ap (λ (ds : List Deed). gap_deeds gap past ++ ds) (sym alike)
+    ∙ sym (deeds_append gap past p.told))))
 
 -- ---- THE LAW
 
-pub report_tells_starts : WhatOpensStarted → ReportTellsStarts
-report_tells_starts starts asked points ending gap some fit few run proper none =
+pub report_tells_starts : EachFrontIsATrack → WhatOpensStarted → LaneReportTellsStarts
+report_tells_starts fronts starts asked done ending lane gap least some fit few run proper none =
+    let points = all_points done in
+    let short = run-short no_lanes asked done run (omega (arith, few)) in
     let front = front_of points in
-    let vouches : Vouches 1 points (lines_in ending) = run_vouched 0 no_line points (lines_in ending) (script_alone 0 no_line asked points (omega arith) run) none in
-    let lines : vouched (lines_in (told_text 1 points ++ ending)) ≡ run_lines 1 (honest points) ++ vouches.rest =
-    ap vouched (run_read no_line points ending (script-short no_line asked points run (omega (arith, few))) proper) ∙ vouches.is in
-    let all : OpensWhatStarted gap [] no_line (honest points) = subst (λ (ps : List Point). OpensWhatStarted gap [] no_line ps) (sym front.is) (starts (lines_played no_line (script_parts asked) points) points front.count gap (script_played_fit no_line asked points fit) (script-short no_line asked points run (omega (arith, few))) (play-run no_line (script_parts asked) points run) (played-honest no_line (script_parts asked) points front.count front.honesty)) in
-    subst (λ (l : List ReportLine). OpensWereAsked gap [] l) (sym lines) (run_asked gap 1 [] no_line (honest points) [] vouches.rest some (honest_proper points proper) vouches.none all refl)
+    let vouches : Vouches 1 points (lines_in ending) =
+    run_vouched 0 no_lanes points (lines_in ending) (run_alone 0 no_lanes asked done (omega arith) run)
+    none in
+    let lines : vouched (lines_in (lanes_text 1 points ++ ending)) ≡ run_lines 1 (honest_on points) ++ vouches.rest =
+    ap vouched (run_read no_lanes points ending short proper) ∙ vouches.is in
+    let own : IsHonestTrackOf lane (honest_on points) =
+    subst (IsHonestTrackOf lane) (sym front.is)
+    (fronts asked done front.count lane least fit short run front.honesty) in
+    let many = length own.own in
+    let all : OpensWhatStarted gap [] no_line own.own =
+    subst (λ (ps : List Point). OpensWhatStarted gap [] no_line ps)
+    (take_all many own.own (omega arith))
+    (starts own.asked own.own many gap own.fit own.short own.run (own.honest many)) in
+    subst (OpensWereAskedOn lane gap []) (sym lines)
+    (run_asked lane gap 1 [] no_line (honest_on points) own.own [] vouches.rest some
+    (honest_proper points proper) vouches.none own.beside all refl)

@@ -1,70 +1,140 @@
--- The ledger that is read off a report's bytes is that of its run.
-use Rattle.std.proofs.Common.{◌≡◌, ◌≤◌, ◌∙◌, sym, ap, refl, subst, ℕ, suc, ◌+◌, ◌||◌, Bool, true, false, List, [], ◌∷◌, ◌++◌, append-nil, arith, if◌then◌else◌, length, take}
+-- The ledger of a lane that is read off a report's bytes is that of the lane's run.
+use Rattle.std.proofs.Common.{◌≡◌, ◌∙◌, sym, ap, refl, subst, ℕ, suc, ◌+◌, ◌||◌, Bool, true, false, List, [], ◌∷◌, ◌++◌, append_assoc, append-nil, arith, if◌then◌else◌, length, take, take_all}
 use Rattle.std.proofs.lemmas.List.Elements.{recursion_from_All}
-use Rattle.line_script.specs.declared.line.ScriptLine.{ScriptLine}
+use Rattle.line_script.specs.declared.line.LaneLine.{LaneLine}
+use Rattle.line_report.specs.declared.happening.Happening.{Happening}
+use Rattle.line_report.specs.declared.happening.Happening.TheVariants as happenings
 use Rattle.standings.specs.Ledger.{AreLegal, Ledger, empty_ledger, ledger_after_all}
 use Rattle.standings.specs.declared.deed.Deed.{Deed}
-use Rattle.line_step.specs.Lies.{has_lie, tells_lie}
-use Rattle.line_step.specs.Runs.{Point, state_behind, told_text}
-use Rattle.line_step.specs.Parts.{IsScriptRun, lines_played, script_parts}
-use Rattle.line_step.proofs.Newcomers.{played-honest}
-use Rattle.line_step.proofs.Playing.{play-run, script-short}
-use Rattle.one_standing.proofs.Playing.{script_played_fit}
-use Rattle.report_ledger.proofs.Alone.{script_alone}
+use Rattle.line_step.specs.Runs.{Point}
 use Rattle.line_step.specs.State.{LineState, no_line}
-use Rattle.one_standing.specs.Replay.{Follows, IsLedgerOf, LedgerFollows, deeds_of}
+use Rattle.one_standing.specs.Replay.{Follows, IsLedgerOf, LedgerFollows, deeds_in as deeds_of_one, deeds_of}
 use Rattle.one_standing.proofs.LedgerMarks.{ledger_of}
 use Rattle.one_standing.proofs.LedgerRun.{none_fits}
 use Rattle.one_standing.proofs.LedgerStandings.{standing_told}
 use Rattle.one_standing.proofs.LedgerTurns.{after_append, legal_append}
-use Rattle.report_ledger.specs.Ledgers.{AreUnnumbered, ReportTellsLedger, honest}
-use Rattle.report_ledger.specs.Proper.{AreProperPoints, IsProperHappening}
-use Rattle.report_ledger.specs.ReportLines.{ReportLine, deeds_in_report, deeds_told, lines_in, vouched}
-use Rattle.report_ledger.proofs.InLane.{StayInLane, honest_in_lane, play_in_lane}
+use Rattle.line_lanes.specs.Along.{ArePointsOn, EachFrontIsATrack, IsHonestTrackOf, all_done, is_done, told_for}
+use Rattle.line_lanes.specs.Lanes.{Lanes, lines_of, no_lanes, track}
+use Rattle.line_lanes.specs.Parts.{IsLaneRun, IsShort, LanePoint, all_points, state_behind}
+use Rattle.line_lanes.specs.Views.{has_lie_on, lanes_text, tells_lie_on}
+use Rattle.line_lanes.proofs.ScriptRuns.{run-short}
+use Rattle.line_lanes.proofs.Together.{none_track}
+use Rattle.report_ledger.specs.Deeds.{lane_deeds_at, lane_deeds_in_report, lane_deeds_told}
+use Rattle.report_ledger.specs.Ledgers.{AreUnnumbered, LaneReportTellsLedger, honest_on}
+use Rattle.report_ledger.specs.Proper.{ArePointsProper, IsProperOn}
+use Rattle.report_ledger.specs.ReportLines.{ReportLine, lines_in, vouched}
+use Rattle.report_ledger.proofs.Alone.{run_alone}
+use Rattle.report_ledger.proofs.Coming.{AreAllTold, run_told}
 use Rattle.report_ledger.proofs.Deeds.{told_deeds}
 use Rattle.report_ledger.proofs.Lines.{lines_told, run_lines, run_read}
-use Rattle.report_ledger.proofs.Vouched.{Vouches, deeds_append, deeds_unnumbered, run_vouched}
+use Rattle.report_ledger.proofs.Vouched.{Vouches, run_vouched}
 
--- ---- deeds
+-- ---- deeds of lines one behind the other
 
-abbrev deeds_along : List Point → List Deed
-deeds_along [] = []
-deeds_along (point ∷ points) = deeds_of point.told ++ deeds_along points
+pub deeds_append : (lane : ℕ) (a b : List ReportLine)
+    → lane_deeds_told lane (a ++ b) ≡ lane_deeds_told lane a ++ lane_deeds_told lane b
+deeds_append lane [] b = refl
+deeds_append lane (line ∷ a) b =
+    ap (λ ds. lane_deeds_at lane line.number line.text ++ ds) (deeds_append lane a b)
+    ∙ sym (append_assoc (lane_deeds_at lane line.number line.text) (lane_deeds_told lane a)
+    (lane_deeds_told lane b))
 
-run_deeds : (number : ℕ) (points : List Point) → AreProperPoints points → StayInLane points → deeds_told (run_lines number points) ≡ deeds_along points
-run_deeds number [] proper lane = refl
-run_deeds number (point ∷ points) proper lane =
-    deeds_append (lines_told number point.told) (run_lines (point.after.lines + 1) points)
-    ∙ ap (λ (ds : List Deed). ds ++ deeds_told (run_lines (point.after.lines + 1) points)) (told_deeds number point.told (recursion_from_All IsProperHappening point.told proper.0.each) lane.0)
-    ∙ ap (λ (ds : List Deed). deeds_of point.told ++ ds) (run_deeds (point.after.lines + 1) points proper.1 lane.1)
+pub deeds_unnumbered : (lane : ℕ) (tail : List ReportLine) → AreUnnumbered tail
+    → lane_deeds_told lane tail ≡ []
+deeds_unnumbered lane [] none = refl
+deeds_unnumbered lane (line ∷ tail) none =
+    ap (λ n. lane_deeds_at lane n line.text ++ lane_deeds_told lane tail) none.0
+    ∙ deeds_unnumbered lane tail none.1
+
+-- ---- deeds along a run
+
+abbrev deeds_on : ℕ → List LanePoint → List Deed
+deeds_on lane [] = []
+deeds_on lane (point ∷ points) = deeds_of (told_for lane point.told) ++ deeds_on lane points
+
+run_deeds : (lane number : ℕ) (points : List LanePoint) → ArePointsProper points
+    → AreAllTold points → lane_deeds_told lane (run_lines number points) ≡ deeds_on lane points
+run_deeds lane number [] proper told = refl
+run_deeds lane number (point ∷ points) proper told =
+    let later = run_lines (lines_of point.after + 1) points in
+    deeds_append lane (lines_told number point.told) later
+    ∙ ap (λ (ds : List Deed). ds ++ lane_deeds_told lane later)
+    (told_deeds lane number point.told (recursion_from_All IsProperOn point.told proper.0.each) told.0)
+    ∙ ap (λ (ds : List Deed). deeds_of (told_for lane point.told) ++ ds)
+    (run_deeds lane (lines_of point.after + 1) points proper.1 told.1)
 
 -- ---- the honest points are a front of the run
 
-proper_by : (lies : Bool) (point : Point) (points : List Point) → AreProperPoints (point ∷ points) → AreProperPoints (if lies then [] else point ∷ points)
+proper_by : (lies : Bool) (point : LanePoint) (points : List LanePoint)
+    → ArePointsProper (point ∷ points) → ArePointsProper (if lies then [] else point ∷ points)
 proper_by true point points proper = tt
 proper_by false point points proper = proper
 
-pub honest_proper : (points : List Point) → AreProperPoints points → AreProperPoints (honest points)
+pub honest_proper : (points : List LanePoint) → ArePointsProper points
+    → ArePointsProper (honest_on points)
 honest_proper [] proper = tt
-honest_proper (point ∷ points) proper = proper_by (tells_lie point.told) point (honest points) (proper.0, honest_proper points proper.1)
+honest_proper (point ∷ points) proper =
+    proper_by (tells_lie_on point.told) point (honest_on points)
+    (proper.0, honest_proper points proper.1)
+
+told_by : (lies : Bool) (point : LanePoint) (points : List LanePoint)
+    → AreAllTold (point ∷ points) → AreAllTold (if lies then [] else point ∷ points)
+told_by true point points told = tt
+told_by false point points told = told
+
+pub honest_told : (points : List LanePoint) → AreAllTold points → AreAllTold (honest_on points)
+honest_told [] told = tt
+honest_told (point ∷ points) told =
+    told_by (tells_lie_on point.told) point (honest_on points) (told.0, honest_told points told.1)
 
 -- as a number of points, none of which lies
-pub record IsFront (points : List Point) : Type 0 where
+pub record IsFront (points : List LanePoint) : Type 0 where
   pub count : ℕ
-  pub is : honest points ≡ take count points
-  pub honesty : has_lie (take count points) ≡ false
+  pub is : honest_on points ≡ take count points
+  pub honesty : has_lie_on (take count points) ≡ false
 
-front_more : (point : Point) (points : List Point) → IsFront points → (lies : Bool) → tells_lie point.told ≡ lies → IsFront (point ∷ points)
-front_more point points behind true lying = record { count = 0; is = ap (λ (c : Bool). if c then [] else point ∷ honest points) lying; honesty = refl }
-front_more point points behind false honesty = record {
-  count = suc behind.count;
-  is = ap (λ (c : Bool). if c then [] else point ∷ honest points) honesty ∙ ap (λ (ps : List Point). point ∷ ps) behind.is;
-  honesty = ap (λ (c : Bool). c || has_lie (take behind.count points)) honesty ∙ behind.honesty;
-}
+front_more : (point : LanePoint) (points : List LanePoint) → IsFront points → (lies : Bool)
+    → tells_lie_on point.told ≡ lies → IsFront (point ∷ points)
+front_more point points behind true lying =
+    record {
+      count = 0;
+      is = ap (λ (c : Bool). if c then [] else point ∷ honest_on points) lying;
+      honesty = refl;
+    }
+front_more point points behind false honesty =
+    record {
+      count = suc behind.count;
+      is = ap (λ (c : Bool). if c then [] else point ∷ honest_on points) honesty
+          ∙ ap (λ (ps : List LanePoint). point ∷ ps) behind.is;
+      honesty = ap (λ (c : Bool). c || has_lie_on (take behind.count points)) honesty
+          ∙ behind.honesty;
+    }
 
-pub front_of : (points : List Point) → IsFront points
+pub front_of : (points : List LanePoint) → IsFront points
 front_of [] = record { count = 0; is = refl; honesty = refl }
-front_of (point ∷ points) = front_more point points (front_of points) (tells_lie point.told) refl
+front_of (point ∷ points) =
+    front_more point points (front_of points) (tells_lie_on point.told) refl
+
+-- ---- what was done tells the same deeds
+
+undone_deeds : (h : Happening) → is_done h ≡ false → deeds_of_one h ≡ []
+undone_deeds (happenings.Done machine act) is = absurd (let never : true ≡ false = is in cc)
+undone_deeds _ is = refl
+
+done_by : (test : Bool) (h : Happening) (told : List Happening) → is_done h ≡ test
+    → deeds_of told ≡ deeds_of (all_done told)
+    → deeds_of_one h ++ deeds_of told
+    ≡ deeds_of (if test then h ∷ all_done told else all_done told)
+done_by true h told is same = ap (λ (ds : List Deed). deeds_of_one h ++ ds) same
+done_by false h told is same =
+    ap (λ (ds : List Deed). ds ++ deeds_of told) (undone_deeds h is) ∙ same
+
+done_deeds : (told : List Happening) → deeds_of told ≡ deeds_of (all_done told)
+done_deeds [] = refl
+done_deeds (h ∷ told) = done_by (is_done h) h told refl (done_deeds told)
+
+pub same_deeds : (a b : List Happening) → all_done a ≡ all_done b → deeds_of a ≡ deeds_of b
+same_deeds a b same = done_deeds a ∙ ap deeds_of same ∙ sym (done_deeds b)
 
 -- ---- the ledger
 
@@ -72,39 +142,78 @@ record Leads (ledger : Ledger) (deeds : List Deed) (s : LineState) : Type 0 wher
   legal : AreLegal ledger deeds
   marks : IsLedgerOf (ledger_after_all ledger deeds) s
 
-leads_along : (ledger : Ledger) (s : LineState) (points : List Point) → IsLedgerOf ledger s → Follows ledger points → Leads ledger (deeds_along points) (state_behind s points)
-leads_along ledger s [] marks follows = record { legal = tt; marks = marks }
-leads_along ledger s (point ∷ points) marks follows =
-    let one = deeds_of point.told in
-    let behind = leads_along (ledger_after_all ledger one) point.after points follows.1 follows.3 in
+leads_more : (ledger : Ledger) (one other : List Deed) (s : LineState) → AreLegal ledger one
+    → Leads (ledger_after_all ledger one) other s → Leads ledger (one ++ other) s
+leads_more ledger one other s legal behind =
     record {
-      legal = legal_append ledger one (deeds_along points) follows.0 behind.legal;
-      marks = subst (λ (l : Ledger). IsLedgerOf l (state_behind point.after points)) (sym (after_append ledger one (deeds_along points))) behind.marks;
+      legal = legal_append ledger one other legal behind.legal;
+      marks = subst (λ (l : Ledger). IsLedgerOf l s) (sym (after_append ledger one other))
+          behind.marks;
     }
 
-report_deeds : (asked : List ScriptLine) (points : List Point) (ending : List ℕ) → length asked ≤ 1000000 → IsScriptRun no_line asked points → AreProperPoints points → AreUnnumbered (lines_in ending) → deeds_in_report (told_text 1 points ++ ending) ≡ deeds_along (honest points)
-report_deeds asked points ending few run proper none =
-    let vouches : Vouches 1 points (lines_in ending) = run_vouched 0 no_line points (lines_in ending) (script_alone 0 no_line asked points (omega arith) run) none in
-    ap (λ (l : List ReportLine). deeds_told (vouched l)) (run_read no_line points ending (script-short no_line asked points run (omega (arith, few))) proper)
-    ∙ ap deeds_told vouches.is
-    ∙ deeds_append (run_lines 1 (honest points)) vouches.rest
-    ∙ ap (λ (ds : List Deed). deeds_told (run_lines 1 (honest points)) ++ ds) (deeds_unnumbered vouches.rest vouches.none)
-    ∙ append-nil (deeds_told (run_lines 1 (honest points)))
-    ∙ run_deeds 1 (honest points) (honest_proper points proper) (honest_in_lane points (play_in_lane no_line (script_parts asked) points run))
+leads_along : (lane : ℕ) (ledger : Ledger) (s : Lanes) (points : List LanePoint)
+    (own : List Point) → IsLedgerOf ledger (track lane s) → ArePointsOn lane points own
+    → Follows ledger own → Leads ledger (deeds_on lane points) (track lane (state_behind s points))
+leads_along lane ledger s [] [] marks beside follows = record { legal = tt; marks = marks }
+leads_along lane ledger s [] (p ∷ own) marks beside follows = absurd beside
+leads_along lane ledger s (point ∷ points) [] marks beside follows = absurd beside
+leads_along lane ledger s (point ∷ points) (p ∷ own) marks beside follows =
+    let end = track lane (state_behind point.after points) in
+    let now = ledger_after_all ledger (deeds_of p.told) in
+    let here : IsLedgerOf now (track lane point.after) =
+    subst (λ (t : LineState). IsLedgerOf now t) beside.0.after follows.1 in
+    let behind = leads_along lane now point.after points own here beside.1 follows.3 in
+    subst (λ (ds : List Deed). Leads ledger (ds ++ deeds_on lane points) end)
+    (same_deeds p.told (told_for lane point.told) beside.0.told)
+    (leads_more ledger (deeds_of p.told) (deeds_on lane points) end follows.0 behind)
+
+report_deeds : (lane : ℕ) (asked : List LaneLine) (done : List (List LanePoint))
+    (ending : List ℕ) → IsShort no_lanes (all_points done) → IsLaneRun no_lanes asked done
+    → ArePointsProper (all_points done) → AreUnnumbered (lines_in ending)
+    → lane_deeds_in_report lane (lanes_text 1 (all_points done) ++ ending)
+    ≡ deeds_on lane (honest_on (all_points done))
+report_deeds lane asked done ending short run proper none =
+    let points = all_points done in
+    let vouches : Vouches 1 points (lines_in ending) =
+    run_vouched 0 no_lanes points (lines_in ending) (run_alone 0 no_lanes asked done (omega arith) run)
+    none in
+    ap (λ (l : List ReportLine). lane_deeds_told lane (vouched l))
+    (run_read no_lanes points ending short proper)
+    ∙ ap (lane_deeds_told lane) vouches.is
+    ∙ deeds_append lane (run_lines 1 (honest_on points)) vouches.rest
+    ∙ ap (λ (ds : List Deed). lane_deeds_told lane (run_lines 1 (honest_on points)) ++ ds)
+    (deeds_unnumbered lane vouches.rest vouches.none)
+    ∙ append-nil (lane_deeds_told lane (run_lines 1 (honest_on points)))
+    ∙ run_deeds lane 1 (honest_on points) (honest_proper points proper)
+    (honest_told points (run_told no_lanes asked done run))
 
 -- ---- THE LAW
 
-pub report_tells_ledger : LedgerFollows → ReportTellsLedger
-report_tells_ledger follows asked points ending fit few run proper none =
+pub report_tells_ledger : EachFrontIsATrack → LedgerFollows → LaneReportTellsLedger
+report_tells_ledger fronts follows asked done ending lane some fit few run proper none =
+    let points = all_points done in
+    let short = run-short no_lanes asked done run (omega (arith, few)) in
     let front = front_of points in
-    let text = told_text 1 points ++ ending in
-    let end = state_behind no_line (honest points) in
-    let same : deeds_in_report text ≡ deeds_along (honest points) = report_deeds asked points ending few run proper none in
-    let all : Follows empty_ledger (honest points) = subst (λ (ps : List Point). Follows empty_ledger ps) (sym front.is) (follows (lines_played no_line (script_parts asked) points) points front.count (script_played_fit no_line asked points fit) (script-short no_line asked points run (omega (arith, few))) (play-run no_line (script_parts asked) points run) (played-honest no_line (script_parts asked) points front.count front.honesty)) in
-    let leads = leads_along empty_ledger no_line (honest points) (ledger_of no_line empty_ledger none_fits) all in
-    let marks : IsLedgerOf (ledger_after_all empty_ledger (deeds_in_report text)) end = subst (λ (ds : List Deed). IsLedgerOf (ledger_after_all empty_ledger ds) end) (sym same) leads.marks in
+    let text = lanes_text 1 points ++ ending in
+    let end = track lane (state_behind no_lanes (honest_on points)) in
+    let own : IsHonestTrackOf lane (honest_on points) =
+    subst (IsHonestTrackOf lane) (sym front.is)
+    (fronts asked done front.count lane some fit short run front.honesty) in
+    let many = length own.own in
+    let all : Follows empty_ledger own.own =
+    subst (λ (ps : List Point). Follows empty_ledger ps) (take_all many own.own (omega arith))
+    (follows own.asked own.own many own.fit own.short own.run (own.honest many)) in
+    let first : IsLedgerOf empty_ledger (track lane no_lanes) =
+    subst (λ (t : LineState). IsLedgerOf empty_ledger t) (sym (none_track lane some))
+    (ledger_of no_line empty_ledger none_fits) in
+    let leads : Leads empty_ledger (deeds_on lane (honest_on points)) end =
+    leads_along lane empty_ledger no_lanes (honest_on points) own.own first own.beside all in
+    let told : Leads empty_ledger (lane_deeds_in_report lane text) end =
+    subst (λ (ds : List Deed). Leads empty_ledger ds end)
+    (sym (report_deeds lane asked done ending short run proper none)) leads in
     record {
-      legal = subst (λ (ds : List Deed). AreLegal empty_ledger ds) (sym same) leads.legal;
-      marks = marks;
-      standings = standing_told (ledger_after_all empty_ledger (deeds_in_report text)) end marks;
+      legal = told.legal;
+      marks = told.marks;
+      standings = standing_told (ledger_after_all empty_ledger (lane_deeds_in_report lane text)) end
+          told.marks;
     }

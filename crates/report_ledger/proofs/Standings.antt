@@ -1,81 +1,88 @@
--- The standing that a report's bytes told last of an id is the one that its ledger gives.
-use Rattle.std.proofs.Common.{◌≡◌, ◌≢◌, ◌<◌, ◌^◌, ◌∙◌, sym, ap, refl, subst, ℕ, suc, zero, ◌+◌, ◌==◌, ◌||◌, Bool, true, false, List, [], ◌∷◌, ◌++◌, Option, Some, None, append_assoc, arith, codes, decimal, eqb-true, flat_map, if◌then◌else◌, take}
-use Rattle.std.specs.Prelude.{IfSome, nat_lt}
+-- The standing that a report's bytes over several lanes told last of an id is the one that the ledger
+-- of its lane gives.
+use Rattle.std.proofs.Common.{◌≡◌, ◌<◌, ◌^◌, ◌∙◌, sym, ap, refl, subst, ℕ, suc, zero, ◌+◌, ◌==◌, ◌||◌, Bool, true, false, List, [], ◌∷◌, ◌++◌, Option, Some, None, append_assoc, arith, codes, flat_map, if◌then◌else◌, map, take}
 use Rattle.std.specs.List.{AllByRecursion}
-use Rattle.std.proofs.lemmas.Bool.{or_parts}
+use Rattle.std.proofs.lemmas.Bool.{eqb-true}
 use Rattle.std.proofs.lemmas.List.Elements.{recursion_from_All}
 use Rattle.board_record.specs.BoardId.{id_text}
-use Rattle.board_record.proofs.IdTexts.{read_id-id_text}
 use Rattle.hermes_vertical.specs.declared.message.Vertical.{Vertical}
 use Rattle.hermes_vertical.specs.declared.message.Vertical.TheVariants as verticals
-use Rattle.line_check.specs.LogLine.{id_in, id_of}
 use Rattle.line_check.specs.Words.{cut_at_space}
-use Rattle.line_report.specs.Texts.{act_text, happening_text, told_text as body_text}
+use Rattle.line_report.specs.Lanes.{told_on}
+use Rattle.line_report.specs.Texts.{act_on, happening_on, place_text, told_text as body_text}
 use Rattle.line_report.specs.declared.happening.Happening.{Happening}
 use Rattle.line_report.specs.declared.happening.Happening.TheVariants as happenings
-use Rattle.line_step.specs.Lines.{LineSteps}
-use Rattle.line_step.specs.Tracks.{TrackLine, TrackSteps, other_line, own_line}
-use Rattle.line_step.proofs.Beside.{beside-marks}
-use Rattle.line_step.specs.Runs.{IsRun, Point, state_behind, told_text}
-use Rattle.line_step.specs.Parts.{lines_played, script_parts}
-use Rattle.line_step.proofs.Newcomers.{played-honest}
-use Rattle.line_step.proofs.Playing.{play-run, script-short}
-use Rattle.one_standing.proofs.Playing.{script_played_fit}
-use Rattle.report_ledger.proofs.Alone.{script_alone}
-use Rattle.line_step.specs.Shown.{ascending, ids_marked, ids_owned, one_id, standing_told as told_standing, standings_told, with_id}
-use Rattle.line_step.specs.State.{LineState, marks_in, no_line, owned}
-use Rattle.line_step.specs.Requests.{Request}
+use Rattle.line_report.specs.declared.happening.LaneHappening.{LaneHappening}
+use Rattle.line_script.specs.declared.line.LaneLine.{LaneLine}
+use Rattle.line_step.specs.Shown.{ascending, ids_marked}
+use Rattle.line_step.specs.State.{LineState, marks_in, owned}
 use Rattle.line_step.proofs.Unnamed.{apart_ids}
+use Rattle.line_lanes.specs.Along.{IsOnOneLane, OneStandingOnLanes, StandsOnEach}
+use Rattle.line_lanes.specs.Lanes.{Lanes, lines_of, no_lanes, track}
+use Rattle.line_lanes.specs.Parts.{IsLanePlay, IsLaneRun, LanePart, LanePoint, all_points, parts_of, state_behind}
+use Rattle.line_lanes.specs.Shown.{LaneMarks, LanePlace, is_same_place, marked_from, marked_on, marks_told, place_told, standing_happens, standing_on, standings_on, with_marks}
+use Rattle.line_lanes.specs.Steps.{LanesStep}
+use Rattle.line_lanes.specs.Views.{lanes_text}
+use Rattle.line_lanes.proofs.ScriptRuns.{run-short}
+use Rattle.line_lanes.proofs.Together.{none_track}
 use Rattle.node_core.specs.declared.act.Act.{Act}
 use Rattle.node_core.specs.declared.act.Act.TheVariants as acts
 use Rattle.node_core.specs.declared.act.Deed.TheVariants as deeds
 use Rattle.node_core.specs.declared.act.Setting.TheVariants as settings
-use Rattle.one_standing.specs.Replay.{IsStandingTold}
-use Rattle.one_standing.specs.Standing.{HasOneStanding, OneStanding}
-use Rattle.running_logs.proofs.LineTexts.{cut_spaced, number_bytes, value_is}
-use Rattle.standings.specs.Ledger as ledgers
-use Rattle.standings.specs.Marks.{Owned, has_id, is_held, mark_if, marks_at, marks_from}
-use Rattle.standings.specs.Standing.{HasStanding, Place, standing_of}
-use Rattle.standings.specs.Told.{is_same_standing, standing_told as told_of_place, told_of}
+use Rattle.standings.specs.Marks.{has_id}
+use Rattle.standings.specs.Standing.{Place}
 use Rattle.standings.specs.declared.mark.Mark.{Mark}
-use Rattle.standings.specs.declared.mark.Mark.TheVariants as marks
 use Rattle.standings.specs.declared.standing.Standing.TheVariants as places
-use Rattle.standings.specs.declared.told.Told.{Told}
-use Rattle.standings.specs.declared.told.Told.TheVariants as tolds
-use Rattle.standings.proofs.Standings.{found as standing_found, only}
-use Rattle.report_ledger.specs.Ledgers.{AreUnnumbered, ReportTellsLedger, TellsLedger, honest, ledger_in}
-use Rattle.report_ledger.specs.Proper.{AreProperPoints, IsProperHappening}
+use Rattle.report_ledger.specs.Ledgers.{AreUnnumbered, LaneReportTellsLedger, TellsLaneLedger, honest_on, lane_ledger_in}
+use Rattle.report_ledger.specs.Places.{lane_of, number_of}
+use Rattle.report_ledger.specs.Proper.{ArePointsProper, IsProperOn}
 use Rattle.report_ledger.specs.ReportLines.{ReportLine, lines_in, vouched}
-use Rattle.report_ledger.specs.Standings.{ReportTellsStandings, is_id, line_stands, standing_after, standing_from, stands_at}
+use Rattle.report_ledger.specs.Standings.{is_id, LaneReportTellsStandings, line_stands_on, standing_after_on, standing_from_on, standing_there, stands_at_on}
+use Rattle.report_ledger.proofs.Alone.{run_alone}
+use Rattle.report_ledger.proofs.Deeds.{id_read}
 use Rattle.report_ledger.proofs.Ledgered.{front_of, honest_proper}
 use Rattle.report_ledger.proofs.Lines.{lines_told, run_lines, run_read}
-use Rattle.report_ledger.proofs.Silent.{AreSilent, IsSilent, line_silent}
+use Rattle.report_ledger.proofs.Marked.{Stands, marked_stands, there_is}
+use Rattle.report_ledger.proofs.Silent.{IsSilent, done_silent}
+use Rattle.report_ledger.proofs.TrackMarks.{has_ascending, ledger_stands, none_marked, same_is}
 use Rattle.report_ledger.proofs.Vouched.{Vouches, run_vouched}
+use Rattle.report_ledger.proofs.Walk.{EachOn}
+use Rattle.report_ledger.proofs.Words.{cut_solid, place_word, solid_place}
 
 -- ---- the standing that happenings tell of an id
 
-abbrev stands : ℕ → Option Place → Happening → Option Place
-stands id before (happenings.With machine other) = if other == id then Some (places.With machine) else before
-stands id before (happenings.Between gap other) = if other == id then Some (places.Between gap) else before
-stands id before (happenings.Gone other) = if other == id then None else before
-stands id before _ = before
+abbrev on : ℕ → Place → Option LanePlace
+on lane standing = Some (record { lane = lane; standing = standing })
 
-abbrev stands_along : ℕ → Option Place → List Happening → Option Place
+abbrev stands_in : ℕ → Option LanePlace → ℕ → Happening → Option LanePlace
+stands_in id before lane (happenings.With machine other) =
+    if other == id then on lane (places.With machine) else before
+stands_in id before lane (happenings.Between gap other) =
+    if other == id then on lane (places.Between gap) else before
+stands_in id before lane (happenings.Gone other) = if other == id then None else before
+stands_in id before lane _ = before
+
+abbrev stands_along : ℕ → Option LanePlace → List LaneHappening → Option LanePlace
 stands_along id before [] = before
-stands_along id before (h ∷ told) = stands_along id (stands id before h) told
+stands_along id before (h ∷ told) = stands_along id (stands_in id before h.lane h.what) told
 
 -- ---- what a text tells
 
-id_read : (id : ℕ) → id < 2 ^ 128 → id_of (id_text id) ≡ Some id
-id_read id fits = ap id_in (read_id-id_text id fits)
+place_read : (place : ℕ → Place) (id : ℕ) (before : Option LanePlace) (lane number other : ℕ)
+    → lane < 2 ^ 32 → number < 2 ^ 32 → other < 2 ^ 128
+    → stands_at_on place id before (cut_at_space ((place_text lane number ++ codes " ") ++ id_text other))
+    ≡ (if other == id then on lane (place number) else before)
+place_read place id before lane number other few small fits =
+    let text = place_text lane number in
+    let word = place_word lane number few small in
+    ap (stands_at_on place id before) (cut_solid text (id_text other) (solid_place lane number))
+    ∙ ap (λ (o : Option ℕ). if is_id id o then on (lane_of text) (place (number_of text)) else before)
+    (id_read other fits)
+    ∙ ap (λ (l : ℕ). if other == id then on l (place (number_of text)) else before) word.lane_is
+    ∙ ap (λ (n : ℕ). if other == id then on lane (place n) else before) word.number_is
 
-place_read : (place : ℕ → Place) (id : ℕ) (before : Option Place) (number other : ℕ) → number < 2 ^ 32 → other < 2 ^ 128 → stands_at place id before (cut_at_space ((decimal number ++ codes " ") ++ id_text other)) ≡ (if other == id then Some (place number) else before)
-place_read place id before number other small fits =
-    ap (stands_at place id before) (cut_spaced (decimal number) (id_text other) (number_bytes number (omega (arith, small))))
-    ∙ ap (λ (v : ℕ). if is_id id (id_of (id_text other)) then Some (place v) else before) (value_is number (omega (arith, small)))
-    ∙ ap (λ (o : Option ℕ). if is_id id o then Some (place number) else before) (id_read other fits)
-
-body_stands : (id : ℕ) (before : Option Place) (machine : ℕ) (body : Vertical) → standing_after id before (body_text machine body) ≡ before
+body_stands : (id : ℕ) (before : Option LanePlace) (machine : ℕ) (body : Vertical)
+    → standing_after_on id before (body_text machine body) ≡ before
 body_stands id before machine (verticals.BoardArrived passage) = refl
 body_stands id before machine (verticals.BoardDeparted passage) = refl
 body_stands id before machine (verticals.QueryWorkOrderInfo query question) = refl
@@ -85,249 +92,366 @@ body_stands id before machine (verticals.CheckAlive ping other) = refl
 body_stands id before machine (verticals.Notification code severity text) = refl
 body_stands id before machine (verticals.Other name) = refl
 
-act_stands : (id : ℕ) (before : Option Place) (machine : ℕ) (act : Act) → standing_after id before (act_text machine act) ≡ before
-act_stands id before machine (acts.Deed (deeds.Opens other)) = refl
-act_stands id before machine (acts.Tells message) = body_stands id before machine message.body
-act_stands id before machine (acts.Sets (settings.Will side true)) = refl
-act_stands id before machine _ = refl
+act_stands : (id : ℕ) (before : Option LanePlace) (lane machine : ℕ) (act : Act)
+    → standing_after_on id before (act_on lane machine act) ≡ before
+act_stands id before lane machine (acts.Deed (deeds.Opens other)) = refl
+act_stands id before lane machine (acts.Tells message) = body_stands id before machine message.body
+act_stands id before lane machine (acts.Sets (settings.Will side true)) = refl
+act_stands id before lane machine _ = refl
 
-text_stands : (id : ℕ) (before : Option Place) (happening : Happening) → IsProperHappening happening → standing_after id before (happening_text happening) ≡ stands id before happening
-text_stands id before (happenings.With machine other) proper = place_read places.With id before machine other proper.0 proper.1
-text_stands id before (happenings.Between gap other) proper = place_read places.Between id before gap other proper.0 proper.1
-text_stands id before (happenings.Gone other) proper = ap (λ (o : Option ℕ). if is_id id o then None else before) (id_read other proper)
-text_stands id before (happenings.Done machine act) proper = act_stands id before machine act
-text_stands id before (happenings.Lanes count) proper = refl
-text_stands id before (happenings.Machine number capacity) proper = refl
-text_stands id before (happenings.Bridge number capacity) proper = refl
-text_stands id before (happenings.Cut gap) proper = refl
-text_stands id before (happenings.Stop machine) proper = refl
-text_stands id before (happenings.Spoils machine side) proper = refl
-text_stands id before (happenings.Moved gap step) proper = refl
-text_stands id before (happenings.Lie machine sensed) proper = refl
-text_stands id before (happenings.Unseen machine side) proper = refl
-text_stands id before happenings.Unvouched proper = refl
-text_stands id before (happenings.No reason) proper = refl
-text_stands id before (happenings.Shown machine other quality) proper = refl
-text_stands id before (happenings.ShownBetween gap other) proper = refl
+text_stands : (id : ℕ) (before : Option LanePlace) (lane : ℕ) (what : Happening)
+    → IsProperOn (record { lane = lane; what = what })
+    → standing_after_on id before (happening_on lane what) ≡ stands_in id before lane what
+text_stands id before lane (happenings.With machine other) proper =
+    place_read places.With id before lane machine other proper.0 proper.1.0 proper.1.1
+text_stands id before lane (happenings.Between gap other) proper =
+    place_read places.Between id before lane gap other proper.0 proper.1.0 proper.1.1
+text_stands id before lane (happenings.Gone other) proper =
+    ap (λ (o : Option ℕ). if is_id id o then None else before) (id_read other proper.1)
+text_stands id before lane (happenings.Done machine act) proper =
+    act_stands id before lane machine act
+text_stands id before lane (happenings.Lanes count) proper = refl
+text_stands id before lane (happenings.Machine number capacity) proper = refl
+text_stands id before lane (happenings.Bridge number capacity) proper = refl
+text_stands id before lane (happenings.Cut gap) proper = refl
+text_stands id before lane (happenings.Stop machine) proper = refl
+text_stands id before lane (happenings.Spoils machine side) proper = refl
+text_stands id before lane (happenings.Moved gap step) proper = refl
+text_stands id before lane (happenings.Lie machine sensed) proper = refl
+text_stands id before lane (happenings.Unseen machine side) proper = refl
+text_stands id before lane happenings.Unvouched proper = refl
+text_stands id before lane (happenings.No reason) proper = refl
+text_stands id before lane (happenings.Shown machine other quality) proper = refl
+text_stands id before lane (happenings.ShownBetween gap other) proper = refl
 
-told_stands : (id number : ℕ) (before : Option Place) (told : List Happening) (later : List ReportLine) → AllByRecursion IsProperHappening told → standing_from id before (lines_told number told ++ later) ≡ standing_from id (stands_along id before told) later
+told_stands : (id number : ℕ) (before : Option LanePlace) (told : List LaneHappening)
+    (later : List ReportLine) → AllByRecursion IsProperOn told
+    → standing_from_on id before (lines_told number told ++ later)
+    ≡ standing_from_on id (stands_along id before told) later
 told_stands id number before [] later proper = refl
 told_stands id number before (h ∷ told) later proper =
-    ap (λ (b : Option Place). standing_from id b (lines_told number told ++ later)) (text_stands id before h proper.0)
-    ∙ told_stands id number (stands id before h) told later proper.1
+    ap (λ (b : Option LanePlace). standing_from_on id b (lines_told number told ++ later))
+    (text_stands id before h.lane h.what proper.0)
+    ∙ told_stands id number (stands_in id before h.lane h.what) told later proper.1
 
-unnumbered_stands : (id : ℕ) (before : Option Place) (tail : List ReportLine) → AreUnnumbered tail → standing_from id before tail ≡ before
+unnumbered_stands : (id : ℕ) (before : Option LanePlace) (tail : List ReportLine)
+    → AreUnnumbered tail → standing_from_on id before tail ≡ before
 unnumbered_stands id before [] none = refl
 unnumbered_stands id before (line ∷ tail) none =
-    ap (λ (n : Option ℕ). standing_from id (line_stands id before n line.text) tail) none.0 ∙ unnumbered_stands id before tail none.1
+    ap (λ (n : Option ℕ). standing_from_on id (line_stands_on id before n line.text) tail) none.0
+    ∙ unnumbered_stands id before tail none.1
 
 -- ---- one list behind another
 
-along_append : (id : ℕ) (before : Option Place) (a b : List Happening) → stands_along id before (a ++ b) ≡ stands_along id (stands_along id before a) b
+along_append : (id : ℕ) (before : Option LanePlace) (a b : List LaneHappening)
+    → stands_along id before (a ++ b) ≡ stands_along id (stands_along id before a) b
 along_append id before [] b = refl
-along_append id before (h ∷ a) b = along_append id (stands id before h) a b
+along_append id before (h ∷ a) b = along_append id (stands_in id before h.lane h.what) a b
 
-silent_one : (id : ℕ) (before : Option Place) (h : Happening) → IsSilent h → stands id before h ≡ before
-silent_one id before (happenings.With machine other) silent = absurd silent
-silent_one id before (happenings.Between gap other) silent = absurd silent
-silent_one id before (happenings.Gone other) silent = absurd silent
-silent_one id before _ silent = refl
+silent_one : (id : ℕ) (before : Option LanePlace) (lane : ℕ) (what : Happening) → IsSilent what
+    → stands_in id before lane what ≡ before
+silent_one id before lane (happenings.With machine other) silent = absurd silent
+silent_one id before lane (happenings.Between gap other) silent = absurd silent
+silent_one id before lane (happenings.Gone other) silent = absurd silent
+silent_one id before lane _ silent = refl
 
-silent_along : (id : ℕ) (before : Option Place) (told : List Happening) → AreSilent told → stands_along id before told ≡ before
+silent_along : (id : ℕ) (before : Option LanePlace) (told : List LaneHappening)
+    → EachOn IsSilent told → stands_along id before told ≡ before
 silent_along id before [] silent = refl
 silent_along id before (h ∷ told) silent =
-    ap (λ (b : Option Place). stands_along id b told) (silent_one id before h silent.0) ∙ silent_along id before told silent.1
+    ap (λ (b : Option LanePlace). stands_along id b told)
+    (silent_one id before h.lane h.what silent.0) ∙ silent_along id before told silent.1
 
 -- ---- the standings that changed
 
-abbrev applied : Option Told → Option Place → Option Place
-applied None before = before
-applied (Some (tolds.With machine)) before = Some (places.With machine)
-applied (Some (tolds.Between gap)) before = Some (places.Between gap)
-applied (Some tolds.Gone) before = None
+abbrev or_else : Option LanePlace → Option LanePlace → Option LanePlace
+or_else None before = before
+or_else (Some place) before = Some place
 
-twice : (told : Option Told) (before : Option Place) → applied told (applied told before) ≡ applied told before
-twice None before = refl
-twice (Some (tolds.With machine)) before = refl
-twice (Some (tolds.Between gap)) before = refl
-twice (Some tolds.Gone) before = refl
+-- what is told of marks that were, and are
+abbrev after_told : List LaneMarks → List LaneMarks → Option LanePlace → Option LanePlace
+after_told [] [] before = before
+after_told (own ∷ others) [] before = None
+after_told was (own ∷ others) before =
+    if is_same_place (standing_on (own ∷ others)) (standing_on was) then before
+    else or_else (standing_on (own ∷ others)) before
 
-same_else : (test : Bool) (before : Option Place) → before ≡ (if test then before else before)
+same_else : (test : Bool) (before : Option LanePlace) → before ≡ (if test then before else before)
 same_else true before = refl
 same_else false before = refl
 
-one_told : (id other : ℕ) (told : Option Told) (before : Option Place) → stands_along id before (told_standing other told) ≡ (if other == id then applied told before else before)
-one_told id other None before = same_else (other == id) before
-one_told id other (Some (tolds.With machine)) before = refl
-one_told id other (Some (tolds.Between gap)) before = refl
-one_told id other (Some tolds.Gone) before = refl
+one_stands : (id other lane : ℕ) (standing : Place) (before : Option LanePlace)
+    → stands_along id before (told_on lane (standing_happens other standing ∷ []))
+    ≡ (if other == id then on lane standing else before)
+one_stands id other lane (places.With machine) before = refl
+one_stands id other lane (places.Between gap) before = refl
 
-abbrev chosen : Bool → Option Told → Option Place → Option Place
-chosen test told before = if test then applied told before else before
+place_stands : (id other : ℕ) (place before : Option LanePlace)
+    → stands_along id before (place_told other place)
+    ≡ (if other == id then or_else place before else before)
+place_stands id other None before = same_else (other == id) before
+place_stands id other (Some place) before = one_stands id other place.lane place.standing before
 
-again : (test : Bool) (told : Option Told) (before : Option Place) → chosen test told (applied told before) ≡ applied told before
-again true told before = twice told before
-again false told before = refl
+changed_stands : (same : Bool) (id other : ℕ) (place before : Option LanePlace)
+    → stands_along id before (if same then [] else place_told other place)
+    ≡ (if other == id then (if same then before else or_else place before) else before)
+changed_stands true id other place before = same_else (other == id) before
+changed_stands false id other place before = place_stands id other place before
 
-one_more : (f : ℕ → Option Told) (id other : ℕ) (rest test : Bool) (before : Option Place) → (other == id) ≡ test → chosen rest (f id) (if test then applied (f other) before else before) ≡ chosen (test || rest) (f id) before
-one_more f id other rest true before is =
+one_told : (id other : ℕ) (was now : List LaneMarks) (before : Option LanePlace)
+    → stands_along id before (marks_told other was now)
+    ≡ (if other == id then after_told was now before else before)
+one_told id other [] [] before = same_else (other == id) before
+one_told id other (own ∷ others) [] before = refl
+one_told id other was (own ∷ others) before =
+    changed_stands (is_same_place (standing_on (own ∷ others)) (standing_on was)) id other
+    (standing_on (own ∷ others)) before
+
+else_twice : (place before : Option LanePlace)
+    → or_else place (or_else place before) ≡ or_else place before
+else_twice None before = refl
+else_twice (Some place) before = refl
+
+twice_by : (same : Bool) (place before : Option LanePlace)
+    → (if same then (if same then before else or_else place before) else or_else place (if same then before else or_else place before))
+    ≡ (if same then before else or_else place before)
+twice_by true place before = refl
+twice_by false place before = else_twice place before
+
+twice : (was now : List LaneMarks) (before : Option LanePlace)
+    → after_told was now (after_told was now before) ≡ after_told was now before
+twice [] [] before = refl
+twice (own ∷ others) [] before = refl
+twice was (own ∷ others) before =
+    twice_by (is_same_place (standing_on (own ∷ others)) (standing_on was))
+    (standing_on (own ∷ others)) before
+
+abbrev chosen : Bool → List LaneMarks → List LaneMarks → Option LanePlace → Option LanePlace
+chosen test was now before = if test then after_told was now before else before
+
+again : (test : Bool) (was now : List LaneMarks) (before : Option LanePlace)
+    → chosen test was now (after_told was now before) ≡ after_told was now before
+again true was now before = twice was now before
+again false was now before = refl
+
+one_more : (was now : ℕ → List LaneMarks) (id other : ℕ) (rest test : Bool)
+    (before : Option LanePlace) → (other == id) ≡ test
+    → chosen rest (was id) (now id) (if test then after_told (was other) (now other) before else before)
+    ≡ chosen (test || rest) (was id) (now id) before
+one_more was now id other rest true before is =
     let same : other ≡ id = eqb-true other id is in
-    ap (λ (n : ℕ). chosen rest (f id) (applied (f n) before)) same ∙ again rest (f id) before
-one_more f id other rest false before is = refl
+    ap (λ (n : ℕ). chosen rest (was id) (now id) (after_told (was n) (now n) before)) same
+    ∙ again rest (was id) (now id) before
+one_more was now id other rest false before is = refl
 
-all_told : (f : ℕ → Option Told) (id : ℕ) (ids : List ℕ) (before : Option Place) → stands_along id before (flat_map (λ other. told_standing other (f other)) ids) ≡ chosen (has_id id ids) (f id) before
-all_told f id [] before = refl
-all_told f id (other ∷ ids) before =
-    along_append id before (told_standing other (f other)) (flat_map (λ o. told_standing o (f o)) ids)
-    ∙ ap (λ (b : Option Place). stands_along id b (flat_map (λ o. told_standing o (f o)) ids)) (one_told id other (f other) before)
-    ∙ all_told f id ids (if other == id then applied (f other) before else before)
-    ∙ one_more f id other (has_id id ids) (other == id) before refl
+all_told : (was now : ℕ → List LaneMarks) (id : ℕ) (ids : List ℕ) (before : Option LanePlace)
+    → stands_along id before (flat_map (λ (other : ℕ). marks_told other (was other) (now other)) ids)
+    ≡ chosen (has_id id ids) (was id) (now id) before
+all_told was now id [] before = refl
+all_told was now id (other ∷ ids) before =
+    let later = flat_map (λ (o : ℕ). marks_told o (was o) (now o)) ids in
+    along_append id before (marks_told other (was other) (now other)) later
+    ∙ ap (λ (b : Option LanePlace). stands_along id b later)
+    (one_told id other (was other) (now other) before)
+    ∙ all_told was now id ids (if other == id then after_told (was other) (now other) before else before)
+    ∙ one_more was now id other (has_id id ids) (other == id) before refl
 
 -- ---- an id that is told of by nobody has no marks
 
-with_by : (id other first : ℕ) (ids : List ℕ) (less same : Bool) → (other == first) ≡ same → (has_id id (with_id other ids) ≡ false → has_id id (other ∷ ids) ≡ false) → has_id id (if less then other ∷ first ∷ ids else (if same then first ∷ ids else first ∷ with_id other ids)) ≡ false → has_id id (other ∷ first ∷ ids) ≡ false
-with_by id other first ids true same is later none = none
-with_by id other first ids false true is later none =
-    let parts = or_parts (first == id) (has_id id ids) none in
-    ap (λ (n : ℕ). (n == id) || has_id id (first ∷ ids)) (eqb-true other first is) ∙ ap (λ (b : Bool). b || has_id id (first ∷ ids)) parts.0 ∙ none
-with_by id other first ids false false is later none =
-    let parts = or_parts (first == id) (has_id id (with_id other ids)) none in
-    let behind = or_parts (other == id) (has_id id ids) (later parts.1) in
-    ap (λ (b : Bool). b || ((first == id) || has_id id ids)) behind.0 ∙ ap (λ (b : Bool). b || has_id id ids) parts.0 ∙ behind.1
-
-has_with : (id other : ℕ) (ids : List ℕ) → has_id id (with_id other ids) ≡ false → has_id id (other ∷ ids) ≡ false
-has_with id other [] none = none
-has_with id other (first ∷ ids) none = with_by id other first ids (nat_lt other first) (other == first) refl (has_with id other ids) none
-
-pub has_ascending : (id : ℕ) (ids : List ℕ) → has_id id (ascending ids) ≡ false → has_id id ids ≡ false
-has_ascending id [] none = refl
-has_ascending id (other ∷ ids) none =
-    let parts = or_parts (other == id) (has_id id (ascending ids)) (has_with id other (ascending ids) none) in
-    ap (λ (b : Bool). b || has_id id ids) parts.0 ∙ has_ascending id ids parts.1
-
-one_held : (id : ℕ) (held : Option ℕ) → has_id id (one_id held) ≡ false → is_held id held ≡ false
-one_held id None none = refl
-one_held id (Some other) none = (or_parts (other == id) false none).0
-
-none_owned : (machine id : ℕ) (own : Owned) → has_id id (ids_owned own) ≡ false → marks_at machine own id ≡ []
-none_owned machine id own none =
-    let first = apart_ids id own.kept (one_id own.held ++ one_id own.taking) none in
-    let second = apart_ids id (one_id own.held) (one_id own.taking) first.1 in
-    ap (λ (b : Bool). mark_if b (marks.Kept machine) ++ (mark_if (is_held id own.held) (marks.Outlet machine) ++ mark_if (is_held id own.taking) (marks.Intake machine))) first.0
-    ∙ ap (λ (b : Bool). mark_if b (marks.Outlet machine) ++ mark_if (is_held id own.taking) (marks.Intake machine)) (one_held id own.held second.0)
-    ∙ ap (λ (b : Bool). mark_if b (marks.Intake machine)) (one_held id own.taking second.1)
-
-pub none_marked : (machine id : ℕ) (line : List Owned) → has_id id (flat_map ids_owned line) ≡ false → marks_from machine line id ≡ []
-none_marked machine id [] none = refl
-none_marked machine id (own ∷ line) none =
-    let two = apart_ids id (ids_owned own) (flat_map ids_owned line) none in
-    ap (λ (ms : List Mark). ms ++ marks_from (machine + 1) line id) (none_owned machine id own two.0) ∙ none_marked (machine + 1) id line two.1
+none_on : (id lane : ℕ) (tracks : List LineState) → has_id id (flat_map ids_marked tracks) ≡ false
+    → marked_from id lane tracks ≡ []
+none_on id lane [] none = refl
+none_on id lane (t ∷ tracks) none =
+    let two = apart_ids id (ids_marked t) (flat_map ids_marked tracks) none in
+    ap (λ (ms : List Mark). with_marks lane ms (marked_from id (lane + 1) tracks))
+    (none_marked 1 id (owned t) two.0) ∙ none_on id (lane + 1) tracks two.1
 
 -- ---- the standing that marks give
 
-pub same_is : (one other : Option Place) → is_same_standing one other ≡ true → one ≡ other
-same_is None None is = refl
-same_is None (Some other) is = absurd (let h : false ≡ true = is in cc)
-same_is (Some one) None is = absurd (let h : false ≡ true = is in cc)
-same_is (Some (places.With machine)) (Some (places.With other)) is = ap (λ (m : ℕ). Some (places.With m)) (eqb-true machine other is)
-same_is (Some (places.With machine)) (Some (places.Between gap)) is = absurd (let h : false ≡ true = is in cc)
-same_is (Some (places.Between gap)) (Some (places.With machine)) is = absurd (let h : false ≡ true = is in cc)
-same_is (Some (places.Between gap)) (Some (places.Between other)) is = ap (λ (g : ℕ). Some (places.Between g)) (eqb-true gap other is)
+place_by : (one other : LanePlace) (lane standing : Bool) → (one.lane == other.lane) ≡ lane
+    → (standing ≡ true → one.standing ≡ other.standing)
+    → (if lane then standing else false) ≡ true → one ≡ other
+place_by one other true true here same is =
+    let lanes : one.lane ≡ other.lane = eqb-true one.lane other.lane here in
+    let standings : one.standing ≡ other.standing = same refl in
+    ap (λ (l : ℕ). record { lane = l; standing = one.standing }) lanes
+    ∙ ap (λ (p : Place). record { lane = other.lane; standing = p }) standings
+place_by one other true false here same is = absurd (let never : false ≡ true = is in cc)
+place_by one other false standing here same is = absurd (let never : false ≡ true = is in cc)
 
-told_place : (place : Place) (before : Option Place) → applied (told_of_place (Some place)) before ≡ Some place
-told_place (places.With machine) before = refl
-told_place (places.Between gap) before = refl
+some_same : (one other : Place) → Some one ≡ Some other → one ≡ other
+some_same one other same = cc
 
-changed_by : (test : Bool) (was now before : Option Place) (place : Place) → is_same_standing now was ≡ test → now ≡ Some place → before ≡ was → applied (if test then None else told_of_place now) before ≡ now
-changed_by true was now before place same is stood = stood ∙ sym (same_is now was same)
-changed_by false was now before place same is stood = ap (λ (n : Option Place). applied (told_of_place n) before) is ∙ told_place place before ∙ sym is
+same_place : (one other : Option LanePlace) → is_same_place one other ≡ true → one ≡ other
+same_place None None is = refl
+same_place None (Some other) is = absurd (let never : false ≡ true = is in cc)
+same_place (Some one) None is = absurd (let never : false ≡ true = is in cc)
+same_place (Some one) (Some other) is =
+    ap (λ (p : LanePlace). Some p)
+    (place_by one other (one.lane == other.lane) _ refl
+    (λ same. some_same one.standing other.standing
+    (same_is (Some one.standing) (Some other.standing) same)) is)
 
--- an id with marks has a standing
-abbrev Stands : List Mark → Type 0
-Stands ms = ms ≢ [] → (place : Place) × HasStanding ms place
+changed_by : (same : Bool) (was now before : Option LanePlace) (place : LanePlace)
+    → is_same_place now was ≡ same → now ≡ Some place → before ≡ was
+    → (if same then before else or_else now before) ≡ now
+changed_by true was now before place alike is stood = stood ∙ sym (same_place now was alike)
+changed_by false was now before place alike is stood =
+    ap (λ (n : Option LanePlace). or_else n before) is ∙ sym is
 
-changed : (was now : List Mark) (before : Option Place) → before ≡ standing_of was → Stands now → applied (told_of was now) before ≡ standing_of now
+changed : (was now : List LaneMarks) (before : Option LanePlace) → before ≡ standing_on was
+    → Stands now → after_told was now before ≡ standing_on now
 changed [] [] before stood has = stood
-changed (m ∷ ms) [] before stood has = refl
-changed [] (n ∷ ns) before stood has =
+changed (own ∷ others) [] before stood has = refl
+changed [] (own ∷ others) before stood has =
     let place = has (λ none. cc) in
-    changed_by (is_same_standing (standing_of (n ∷ ns)) (standing_of [])) (standing_of []) (standing_of (n ∷ ns)) before place.0 refl (only (n ∷ ns) place.0 place.1) stood
-changed (m ∷ ms) (n ∷ ns) before stood has =
+    changed_by (is_same_place (standing_on (own ∷ others)) None) None (standing_on (own ∷ others))
+    before place.0 refl place.1 stood
+changed (one ∷ more) (own ∷ others) before stood has =
     let place = has (λ none. cc) in
-    changed_by (is_same_standing (standing_of (n ∷ ns)) (standing_of (m ∷ ms))) (standing_of (m ∷ ms)) (standing_of (n ∷ ns)) before place.0 refl (only (n ∷ ns) place.0 place.1) stood
+    changed_by (is_same_place (standing_on (own ∷ others)) (standing_on (one ∷ more)))
+    (standing_on (one ∷ more)) (standing_on (own ∷ others)) before place.0 refl place.1 stood
 
-abbrev told_between : LineState → LineState → ℕ → Option Told
-told_between before after id = told_of (marks_in before id) (marks_in after id)
-
-listed_by : (test : Bool) (before next : LineState) (id : ℕ) (place : Option Place) → has_id id (ascending (ids_marked before ++ ids_marked next)) ≡ test → place ≡ standing_of (marks_in before id) → Stands (marks_in next id) → chosen test (told_between before next id) place ≡ standing_of (marks_in next id)
-listed_by true before next id place is stood has = changed (marks_in before id) (marks_in next id) place stood has
+listed_by : (test : Bool) (before next : Lanes) (id : ℕ) (place : Option LanePlace)
+    → has_id id (ascending (flat_map ids_marked before.tracks ++ flat_map ids_marked next.tracks)) ≡ test
+    → place ≡ standing_on (marked_on before id) → Stands (marked_on next id)
+    → chosen test (marked_on before id) (marked_on next id) place ≡ standing_on (marked_on next id)
+listed_by true before next id place is stood has =
+    changed (marked_on before id) (marked_on next id) place stood has
 listed_by false before next id place is stood has =
-    let two = apart_ids id (ids_marked before) (ids_marked next) (has_ascending id (ids_marked before ++ ids_marked next) is) in
-    stood ∙ ap standing_of (none_marked 1 id (owned before) two.0 ∙ sym (none_marked 1 id (owned next) two.1))
+    let was = flat_map ids_marked before.tracks in
+    let now = flat_map ids_marked next.tracks in
+    let two = apart_ids id was now (has_ascending id (was ++ now) is) in
+    stood
+    ∙ ap standing_on (none_on id 1 before.tracks two.0 ∙ sym (none_on id 1 next.tracks two.1))
 
-standings_stand : (before next : LineState) (id : ℕ) (place : Option Place) → place ≡ standing_of (marks_in before id) → Stands (marks_in next id) → stands_along id place (standings_told before next) ≡ standing_of (marks_in next id)
+standings_stand : (before next : Lanes) (id : ℕ) (place : Option LanePlace)
+    → place ≡ standing_on (marked_on before id) → Stands (marked_on next id)
+    → stands_along id place (standings_on before next) ≡ standing_on (marked_on next id)
 standings_stand before next id place stood has =
-    all_told (told_between before next) id (ascending (ids_marked before ++ ids_marked next)) place
-    ∙ listed_by (has_id id (ascending (ids_marked before ++ ids_marked next))) before next id place refl stood has
+    let ids = ascending (flat_map ids_marked before.tracks ++ flat_map ids_marked next.tracks) in
+    all_told (marked_on before) (marked_on next) id ids place
+    ∙ listed_by (has_id id ids) before next id place refl stood has
 
 -- ---- A LINE, AND A RUN
 
-line_stands_told : (number : ℕ) (request : Request) (before after : LineState) (told : List Happening) (id : ℕ) (place : Option Place) → LineSteps number request before after told → place ≡ standing_of (marks_in before id) → Stands (marks_in after id) → stands_along id place told ≡ standing_of (marks_in after id)
-line_stands_told number request before after told id place steps stood has =
-    let same : marks_in after id ≡ marks_in steps.next id = ap (λ (s : LineState). marks_in s id) steps.after_is in
+counted_marked : (id lane lines : ℕ) (tracks : List LineState)
+    → marked_from id lane (map (λ (t : LineState). record t { lines = lines }) tracks)
+    ≡ marked_from id lane tracks
+counted_marked id lane lines [] = refl
+counted_marked id lane lines (t ∷ tracks) =
+    ap (with_marks lane (marks_in t id)) (counted_marked id (lane + 1) lines tracks)
+
+step_stands : (number : ℕ) (line : LaneLine) (before after : Lanes) (told : List LaneHappening)
+    (id : ℕ) (place : Option LanePlace) → LanesStep number line before after told
+    → place ≡ standing_on (marked_on before id) → Stands (marked_on after id)
+    → stands_along id place told ≡ standing_on (marked_on after id)
+step_stands number line before after told id place steps stood has =
+    let same : marked_on after id ≡ marked_on steps.next id =
+    ap (λ (s : Lanes). marked_on s id) steps.after_is
+    ∙ counted_marked id 1 steps.lines steps.next.tracks in
     ap (stands_along id place) steps.told_is
-    ∙ along_append id place steps.done (standings_told before steps.next)
-    ∙ ap (λ (b : Option Place). stands_along id b (standings_told before steps.next)) (silent_along id place steps.done (line_silent number request before steps.next steps.done steps.does))
+    ∙ along_append id place steps.done (standings_on before steps.next)
+    ∙ ap (λ (b : Option LanePlace). stands_along id b (standings_on before steps.next))
+    (silent_along id place steps.done
+    (done_silent number line before steps.next steps.done steps.does))
     ∙ standings_stand before steps.next id place stood (subst Stands same has)
-    ∙ ap standing_of (sym same)
+    ∙ ap standing_on (sym same)
 
-track_stands_told : (number : ℕ) (line : TrackLine) (before after : LineState) (told : List Happening) (id : ℕ) (place : Option Place) → TrackSteps number line before after told → place ≡ standing_of (marks_in before id) → Stands (marks_in after id) → stands_along id place told ≡ standing_of (marks_in after id)
-track_stands_told number (own_line request) before after told id place steps stood has = line_stands_told number request before after told id place steps.0 stood has
-track_stands_told number other_line before after told id place steps stood has =
-    ap (stands_along id place) steps.1 ∙ stood ∙ ap standing_of (sym (beside-marks before after id steps.0))
+-- a point is a step
+record IsStep (s : Lanes) (point : LanePoint) : Type 0 where
+  number : ℕ
+  line : LaneLine
+  steps : LanesStep number line s point.after point.told
 
-run_stands : (id number : ℕ) (s : LineState) (asked : List TrackLine) (points : List Point) (count : ℕ) (place : Option Place) (tail : List ReportLine) → IsRun s asked points → AreProperPoints (take count points) → AllByRecursion (λ (point : Point). HasOneStanding point.after) (take count points) → AreUnnumbered tail → place ≡ standing_of (marks_in s id)
-    → standing_from id place (run_lines number (take count points) ++ tail) ≡ standing_of (marks_in (state_behind s (take count points)) id)
-run_stands id number s asked points zero place tail run proper one none stood = unnumbered_stands id place tail none ∙ stood
-run_stands id number s [] [] (suc count) place tail run proper one none stood = unnumbered_stands id place tail none ∙ stood
-run_stands id number s [] (point ∷ points) (suc count) place tail run proper one none stood = elim run [ ]
-run_stands id number s (line ∷ asked) [] (suc count) place tail run proper one none stood = elim run [ ]
-run_stands id number s (line ∷ asked) (point ∷ points) (suc count) place tail run proper one none stood =
+abbrev AreSteps : Lanes → List LanePoint → Type 0
+AreSteps s [] = Unit {0}
+AreSteps s (point ∷ points) = IsStep s point × AreSteps point.after points
+
+play_steps : (s : Lanes) (parts : List LanePart) (points more : List LanePoint)
+    → IsLanePlay s parts points → AreSteps (state_behind s points) more → AreSteps s (points ++ more)
+play_steps s [] [] more play later = later
+play_steps s [] (point ∷ points) more play later = absurd play
+play_steps s (part ∷ parts) [] more play later = absurd play
+play_steps s (part ∷ parts) (point ∷ points) more play later = (
+  record { number = lines_of s + 1; line = part.line s; steps = play.0.steps },
+  play_steps point.after parts points more play.1 later,
+)
+
+run_steps : (s : Lanes) (asked : List LaneLine) (done : List (List LanePoint))
+    → IsLaneRun s asked done → AreSteps s (all_points done)
+run_steps s [] [] run = tt
+run_steps s [] (own ∷ done) run = absurd run
+run_steps s (line ∷ asked) [] run = absurd run
+run_steps s (line ∷ asked) (own ∷ done) run =
+    play_steps s (parts_of _ line) own (all_points done) run.0
+    (run_steps (state_behind s own) asked done run.1)
+
+run_stands : (id number : ℕ) (s : Lanes) (points : List LanePoint) (count : ℕ)
+    (place : Option LanePlace) (tail : List ReportLine) → AreSteps s points
+    → ArePointsProper (take count points)
+    → AllByRecursion (λ (point : LanePoint). StandsOnEach point.after) (take count points)
+    → AreUnnumbered tail → place ≡ standing_on (marked_on s id)
+    → standing_from_on id place (run_lines number (take count points) ++ tail)
+    ≡ standing_on (marked_on (state_behind s (take count points)) id)
+run_stands id number s points zero place tail steps proper one none stood =
+    unnumbered_stands id place tail none ∙ stood
+run_stands id number s [] (suc count) place tail steps proper one none stood =
+    unnumbered_stands id place tail none ∙ stood
+run_stands id number s (point ∷ points) (suc count) place tail steps proper one none stood =
     let told = point.told in
-    let later = run_lines (point.after.lines + 1) (take count points) ++ tail in
-    ap (standing_from id place) (append_assoc (lines_told number told) (run_lines (point.after.lines + 1) (take count points)) tail)
-    ∙ told_stands id number place told later (recursion_from_All IsProperHappening told proper.0.each)
-    ∙ run_stands id (point.after.lines + 1) point.after asked points count (stands_along id place told) tail run.1 proper.1 one.1 none
-    (track_stands_told (s.lines + 1) line s point.after told id place run.0 stood (one.0.each id))
+    let others = run_lines (lines_of point.after + 1) (take count points) in
+    let step = steps.0 in
+    ap (standing_from_on id place) (append_assoc (lines_told number told) others tail)
+    ∙ told_stands id number place told (others ++ tail)
+    (recursion_from_All IsProperOn told proper.0.each)
+    ∙ run_stands id (lines_of point.after + 1) point.after points count (stands_along id place told)
+    tail steps.1 proper.1 one.1 none
+    (step_stands step.number step.line s point.after told id place step.steps stood
+    (marked_stands point.after id one.0))
 
 -- ---- THE LAW
 
-pub ledger_stands : (ledger : ledgers.Ledger) (s : LineState) (id : ℕ) → IsStandingTold ledger s → standing_of (ledgers.marks_in id ledger.marks) ≡ standing_of (marks_in s id)
-ledger_stands ledger s id told = by (standing_of (marks_in s id)) (standing_of (ledgers.marks_in id ledger.marks)) refl refl where
-  by : (here there : Option Place) → standing_of (marks_in s id) ≡ here → standing_of (ledgers.marks_in id ledger.marks) ≡ there → standing_of (ledgers.marks_in id ledger.marks) ≡ standing_of (marks_in s id)
-  by (Some place) there is was =
-      let has : HasStanding (marks_in s id) place = subst (λ (o : Option Place). IfSome o (HasStanding (marks_in s id))) is (standing_found (marks_in s id)) in
-      only (ledgers.marks_in id ledger.marks) place (told.whole id place has) ∙ sym is
-  by None None is was = was ∙ sym is
-  by None (Some place) is was =
-      let has : HasStanding (ledgers.marks_in id ledger.marks) place = subst (λ (o : Option Place). IfSome o (HasStanding (ledgers.marks_in id ledger.marks))) was (standing_found (ledgers.marks_in id ledger.marks)) in
-      was ∙ sym (only (marks_in s id) place (told.told id place has))
+-- no record is on two lanes behind the front
+none_alone : IsOnOneLane no_lanes
+none_alone id lane other some more one two =
+    absurd (one (ap (λ (t : LineState). marks_in t id) (none_track lane some)))
 
-pub report_tells_standings : OneStanding → ReportTellsLedger → ReportTellsStandings
-report_tells_standings one tells asked points ending fit few run proper none =
+last_alone : (points : List LanePoint) (s : Lanes) → IsOnOneLane s
+    → AllByRecursion (λ (point : LanePoint). StandsOnEach point.after) points
+    → IsOnOneLane (state_behind s points)
+last_alone [] s first each = first
+last_alone (point ∷ points) s first each = last_alone points point.after each.0.alone each.1
+
+pub report_tells_standings : OneStandingOnLanes → LaneReportTellsLedger → LaneReportTellsStandings
+report_tells_standings one tells asked done ending lane some fit few run proper none =
+    let points = all_points done in
+    let short = run-short no_lanes asked done run (omega (arith, few)) in
     let front = front_of points in
-    let text = told_text 1 points ++ ending in
-    let vouches : Vouches 1 points (lines_in ending) = run_vouched 0 no_line points (lines_in ending) (script_alone 0 no_line asked points (omega arith) run) none in
-    let lines : vouched (lines_in text) ≡ run_lines 1 (honest points) ++ vouches.rest =
-    ap vouched (run_read no_line points ending (script-short no_line asked points run (omega (arith, few))) proper) ∙ vouches.is in
-    let ledger : TellsLedger text (state_behind no_line (honest points)) = tells asked points ending fit few run proper none in
-    let proper_front : AreProperPoints (take front.count points) = subst (λ (ps : List Point). AreProperPoints ps) front.is (honest_proper points proper) in
-    let each = one (lines_played no_line (script_parts asked) points) points front.count (script_played_fit no_line asked points fit) (script-short no_line asked points run (omega (arith, few))) (play-run no_line (script_parts asked) points run) (played-honest no_line (script_parts asked) points front.count front.honesty) in
+    let text = lanes_text 1 points ++ ending in
+    let vouches : Vouches 1 points (lines_in ending) =
+    run_vouched 0 no_lanes points (lines_in ending) (run_alone 0 no_lanes asked done (omega arith) run)
+    none in
+    let lines : vouched (lines_in text) ≡ run_lines 1 (honest_on points) ++ vouches.rest =
+    ap vouched (run_read no_lanes points ending short proper) ∙ vouches.is in
+    let end = state_behind no_lanes (honest_on points) in
+    let ledger : TellsLaneLedger lane text end =
+    tells asked done ending lane some fit few run proper none in
+    let fine : ArePointsProper (take front.count points) =
+    subst ArePointsProper front.is (honest_proper points proper) in
+    let each = one asked done front.count fit short run front.honesty in
+    let alone : IsOnOneLane end =
+    subst (λ (ps : List LanePoint). IsOnOneLane (state_behind no_lanes ps)) (sym front.is)
+    (last_alone (take front.count points) no_lanes none_alone each) in
     record {
       each = λ id.
-          ledger_stands (ledger_in text) (state_behind no_line (honest points)) id ledger.standings
-          ∙ ap (λ (ps : List Point). standing_of (marks_in (state_behind no_line ps) id)) front.is
-          ∙ sym (run_stands id 1 no_line (lines_played no_line (script_parts asked) points) points front.count None vouches.rest (play-run no_line (script_parts asked) points run) proper_front each vouches.none refl)
-          ∙ ap (λ (ps : List Point). standing_from id None (run_lines 1 ps ++ vouches.rest)) (sym front.is)
-          ∙ ap (standing_from id None) (sym lines);
+          ledger_stands (lane_ledger_in lane text) (track lane end) id ledger.standings
+          ∙ sym (there_is end lane id some alone)
+          ∙ ap (standing_there lane)
+          (ap (λ (ps : List LanePoint). standing_on (marked_on (state_behind no_lanes ps) id)) front.is
+          ∙ sym (run_stands id 1 no_lanes points front.count None vouches.rest
+          (run_steps no_lanes asked done run) fine each vouches.none refl)
+          ∙ ap (λ (ps : List LanePoint). standing_from_on id None (run_lines 1 ps ++ vouches.rest))
+          (sym front.is)
+          ∙ ap (standing_from_on id None) (sym lines));
     }

@@ -1,22 +1,22 @@
--- STARTS AND OPENINGS OF A REPORT'S BYTES: where the text tells that a handover opens at a gap, the
--- last start that it told there is of this board, and nothing was opened, refused or settled there
--- since.
-use Rattle.std.specs.Prelude.{◌≡◌, ℕ, ◌≤◌, ◌==◌, ◌++◌, false, List, [], ◌∷◌, Option, None, Some, codes, if◌then◌else◌, length}
-use Rattle.std.specs.List.{AllByRecursion, list_any}
+-- STARTS AND OPENINGS OF EACH LANE in a report's bytes: where the text tells that a handover opens at
+-- a gap of a lane, the last start that it told there is of this board, and nothing was opened,
+-- refused or settled there since.
+use Rattle.std.specs.Prelude.{◌≡◌, ℕ, ◌++◌, false, List, [], ◌∷◌, Option, None, Some, codes, if◌then◌else◌, ◌≤◌, ◌==◌, length}
+use Rattle.std.specs.List.{list_any, AllByRecursion}
 use Rattle.std.specs.Str.{bytes_eq}
-use Rattle.line_base.specs.Number.{value_of}
-use Rattle.line_check.specs.LogLine.{id_of}
-use Rattle.line_check.specs.Words.{behind, cut_at_space, first_word}
 use Rattle.line_history.specs.Opened.{is_other}
-use Rattle.line_script.specs.declared.line.ScriptLine.{ScriptLine}
-use Rattle.line_step.specs.Parts.{IsScriptRun}
-use Rattle.line_step.specs.Runs.{Point, told_text}
-use Rattle.line_step.specs.State.{no_line}
 use Rattle.node_core.specs.declared.act.Deed.{Deed}
 use Rattle.node_core.specs.declared.act.Deed.TheVariants.{Drops, Opens, Refuses, Settles, Starts}
-use Rattle.one_standing.specs.Standing.{IsFitLine}
+use Rattle.line_check.specs.LogLine.{id_of}
+use Rattle.line_check.specs.Words.{behind, cut_at_space, first_word}
+use Rattle.line_script.specs.declared.line.LaneLine.{LaneLine}
+use Rattle.line_lanes.specs.Along.{IsFitLaneLine}
+use Rattle.line_lanes.specs.Lanes.{no_lanes}
+use Rattle.line_lanes.specs.Parts.{IsLaneRun, LanePoint, all_points}
+use Rattle.line_lanes.specs.Views.{lanes_text}
 use Rattle.report_ledger.specs.Ledgers.{AreUnnumbered}
-use Rattle.report_ledger.specs.Proper.{AreProperPoints}
+use Rattle.report_ledger.specs.Places.{lane_of, number_of}
+use Rattle.report_ledger.specs.Proper.{ArePointsProper}
 use Rattle.report_ledger.specs.ReportLines.{ReportLine, lines_in, vouched}
 
 -- ---- what a text tells of a gap, by its first word
@@ -36,28 +36,30 @@ abbrev pub deed_of_id : (ℕ → Deed) → Option ℕ → List Deed
 deed_of_id deed None = []
 deed_of_id deed (Some id) = deed id ∷ []
 
--- the gap's number stands before the id
-abbrev pub placed : ℕ → (ℕ → Deed) → Option (List ℕ × List ℕ) → List Deed
-placed gap deed None = []
-placed gap deed (Some (place, rest)) =
-    if value_of place == gap then deed_of_id deed (id_of rest) else []
+-- the gap's place stands before the id
+abbrev pub placed_on : ℕ → ℕ → (ℕ → Deed) → Option (List ℕ × List ℕ) → List Deed
+placed_on lane gap deed None = []
+placed_on lane gap deed (Some (place, rest)) =
+    if lane_of place == lane
+    then (if number_of place == gap then deed_of_id deed (id_of rest) else []) else []
 
-abbrev pub told_by : ℕ → GapWord → List ℕ → List Deed
-told_by gap None rest = []
-told_by gap (Some deed) rest = placed gap deed (cut_at_space rest)
+abbrev pub told_by_on : ℕ → ℕ → GapWord → List ℕ → List Deed
+told_by_on lane gap None rest = []
+told_by_on lane gap (Some deed) rest = placed_on lane gap deed (cut_at_space rest)
 
-abbrev pub told_at : ℕ → List ℕ → List Deed
-told_at gap text = told_by gap (gap_word (first_word text)) (behind (cut_at_space text))
+abbrev pub told_at_on : ℕ → ℕ → List ℕ → List Deed
+told_at_on lane gap text = told_by_on lane gap (gap_word (first_word text)) (behind (cut_at_space text))
 
 -- a line without a number tells nothing
-abbrev pub line_tells : ℕ → Option ℕ → List ℕ → List Deed
-line_tells gap None text = []
-line_tells gap (Some number) text = told_at gap text
+abbrev pub line_tells_on : ℕ → ℕ → Option ℕ → List ℕ → List Deed
+line_tells_on lane gap None text = []
+line_tells_on lane gap (Some number) text = told_at_on lane gap text
 
--- THE DEEDS OF A GAP that some lines tell, in their order
-abbrev pub gap_told : ℕ → List ReportLine → List Deed
-gap_told gap [] = []
-gap_told gap (line ∷ lines) = line_tells gap line.number line.text ++ gap_told gap lines
+-- THE DEEDS OF A GAP of a lane that some lines tell, in their order
+abbrev pub gap_told_on : ℕ → ℕ → List ReportLine → List Deed
+gap_told_on lane gap [] = []
+gap_told_on lane gap (line ∷ lines) =
+    line_tells_on lane gap line.number line.text ++ gap_told_on lane gap lines
 
 -- ---- the law
 
@@ -69,23 +71,24 @@ pub record IsAsked (id : ℕ) (told : List Deed) : Type 0 where
   pub told_is : told ≡ before ++ Starts id ∷ since
   pub last : list_any is_other since ≡ false
 
--- a line opens a handover at a gap only where it was asked for
-abbrev pub IsAskedFor : ℕ → List ReportLine → ReportLine → Type 0
-IsAskedFor gap before line =
-    (id : ℕ) → line_tells gap line.number line.text ≡ Opens id ∷ []
-    → IsAsked id (gap_told gap before)
+-- a line opens a handover at a gap of a lane only where it was asked for there
+abbrev pub IsAskedForOn : ℕ → ℕ → List ReportLine → ReportLine → Type 0
+IsAskedForOn lane gap before line =
+    (id : ℕ) → line_tells_on lane gap line.number line.text ≡ Opens id ∷ []
+    → IsAsked id (gap_told_on lane gap before)
 
 -- line after line; `before` are those before
-abbrev pub OpensWereAsked : ℕ → List ReportLine → List ReportLine → Type 0
-OpensWereAsked gap before [] = Unit {0}
-OpensWereAsked gap before (line ∷ lines) =
-    IsAskedFor gap before line × OpensWereAsked gap (before ++ line ∷ []) lines
+abbrev pub OpensWereAskedOn : ℕ → ℕ → List ReportLine → List ReportLine → Type 0
+OpensWereAskedOn lane gap before [] = Unit {0}
+OpensWereAskedOn lane gap before (line ∷ lines) =
+    IsAskedForOn lane gap before line × OpensWereAskedOn lane gap (before ++ line ∷ []) lines
 
--- THE LAW: at each gap, over the report of every run, whatever last line stands behind it, up to
--- the first line that told what was not so
-abbrev pub ReportTellsStarts : Type 0
-ReportTellsStarts =
-    (asked : List ScriptLine) (points : List Point) (ending : List ℕ) (gap : ℕ) → 1 ≤ gap
-    → AllByRecursion IsFitLine asked → length asked ≤ 1000000 → IsScriptRun no_line asked points
-    → AreProperPoints points → AreUnnumbered (lines_in ending)
-    → OpensWereAsked gap [] (vouched (lines_in (told_text 1 points ++ ending)))
+-- THE LAW: at each gap of each lane, over the report of every run of a script over several lanes,
+-- whatever last line stands behind it, up to the first line that told what was not so
+abbrev pub LaneReportTellsStarts : Type 0
+LaneReportTellsStarts =
+    (asked : List LaneLine) (done : List (List LanePoint)) (ending : List ℕ) (lane gap : ℕ)
+    → 1 ≤ lane → 1 ≤ gap → AllByRecursion IsFitLaneLine asked → length asked ≤ 1000000
+    → IsLaneRun no_lanes asked done → ArePointsProper (all_points done)
+    → AreUnnumbered (lines_in ending)
+    → OpensWereAskedOn lane gap [] (vouched (lines_in (lanes_text 1 (all_points done) ++ ending)))

@@ -1,12 +1,12 @@
 -- THE LINES OF A REPORT, read off its bytes: the number of the script's line, and what was told.
-use Rattle.std.specs.Prelude.{ℕ, ◌==◌, ◌&&◌, ◌||◌, ◌++◌, Bool, false, List, [], ◌∷◌, Option, None, Some, codes, option_map, option_to_list, if◌then◌else◌}
+use Rattle.std.specs.Prelude.{ℕ, ◌==◌, ◌&&◌, ◌||◌, ◌++◌, Bool, false, List, [], ◌∷◌, Option, None, Some, codes, option_map, if◌then◌else◌}
 use Rattle.std.specs.Str.{bytes_eq}
 use Rattle.line_base.specs.Number.{is_digits, value_of}
 use Rattle.standings.specs.declared.deed.Deed.{Deed}
 use Rattle.standings.specs.declared.deed.Deed.TheVariants.{Inserts, Removes}
 use Rattle.line_check.specs.declared.kind.Kind.{Kind}
 use Rattle.line_check.specs.declared.kind.Kind.TheVariants as kinds
-use Rattle.line_check.specs.LogLine.{entry_deed, exit_deed, id_of, kind_of, replaced}
+use Rattle.line_check.specs.LogLine.{entry_deed, exit_deed, id_of, replaced}
 use Rattle.line_check.specs.Words.{behind, cut_at_space, first_word}
 
 -- a line: its number, which the last line of a report lacks, and the text behind the first space
@@ -70,29 +70,3 @@ deed_at kinds.Removes machine rest = option_map (Removes machine) (id_of rest)
 deed_at kinds.Replaces machine rest = replaced_by machine (cut_at_space rest)
 deed_at (kinds.AtEntry kind) gap rest = option_map (entry_deed kind gap) (id_of rest)
 deed_at (kinds.AtExit kind) gap rest = option_map (exit_deed kind gap) (id_of rest)
-
-abbrev pub deed_in : Kind → Option (List ℕ × List ℕ) → Option Deed
-deed_in kind None = None
-deed_in kind (Some (place, rest)) = deed_at kind (value_of place) rest
-
-abbrev pub deed_by : Option Kind → List ℕ → Option Deed
-deed_by None rest = None
-deed_by (Some kind) rest = deed_in kind (cut_at_space rest)
-
--- THE DEED that a text tells, if it tells one
-abbrev pub deed_of : List ℕ → Option Deed
-deed_of text = deed_by (kind_of (first_word text)) (behind (cut_at_space text))
-
--- a line without a number tells none
-abbrev pub deeds_at : Option ℕ → List ℕ → List Deed
-deeds_at None text = []
-deeds_at (Some number) text = option_to_list (deed_of text)
-
--- THE DEEDS of some lines, in their order
-abbrev pub deeds_told : List ReportLine → List Deed
-deeds_told [] = []
-deeds_told (line ∷ lines) = deeds_at line.number line.text ++ deeds_told lines
-
--- THE DEEDS OF A REPORT, up to the first line of its script that told what was not so
-abbrev pub deeds_in_report : List ℕ → List Deed
-deeds_in_report bytes = deeds_told (vouched (lines_in bytes))

@@ -2,16 +2,43 @@
 //! the part, and changes nothing.
 
 ghost use Rattle.std.specs.Prelude.{◌<◌, ◌^◌};
+ghost use Rattle.line_report.specs.Lanes.{part_told, parts_told};
 ghost use Rattle.machine_log.specs.Account.{IsProperAct};
-ghost use Rattle.report_ledger.specs.Proper.{AreProper, IsProperHappening};
+ghost use Rattle.report_ledger.specs.Proper.{AreProper, AreProperOn, AreShiftsProper, GoesToALane, IsProperHappening};
 
 use board_record::BoardId;
-use line_report::Happening;
+use line_report::{Happening, LaneHappened, LanePart, LaneParts};
 use machine_log::acts_are_proper;
 use node_core::Act;
 
-/// Every id and every name in what a line of a script told is what its type allows.
-pub fn happenings_are_proper(told: &[Happening])
+/// Every id, every name and the number of every lane in what a line of a script told is what its
+/// type allows.
+pub fn lanes_are_proper(told: &LaneHappened)
+    ensures { AreProperOn told.now }
+{
+    let LaneParts { earlier, last } = told.parts();
+    parts_are_proper(earlier);
+    part_is_proper(last);
+}
+
+fn parts_are_proper(parts: &[LanePart])
+    ensures { AreProperOn (parts_told parts.now) }
+{
+    for part in parts {
+        part_is_proper(part);
+    }
+}
+
+fn part_is_proper(part: &LanePart)
+    ensures { AreProperOn (part_told part.now) }
+{
+    number_is_proper(part.lane);
+    let told = part.told.list();
+    happenings_are_proper(told);
+    shifts_are_proper(told);
+}
+
+fn happenings_are_proper(told: &[Happening])
     ensures { AreProper told.now }
 {
     for happening in told {
@@ -52,7 +79,33 @@ fn happening_is_proper(happening: &Happening)
     }
 }
 
-/// The number of a machine or a gap has 32 bits.
+fn act_is_proper(act: &Act)
+    ensures { IsProperAct act.now }
+{
+    acts_are_proper(std::slice::from_ref(act));
+}
+
+fn shifts_are_proper(told: &[Happening])
+    ensures { AreShiftsProper told.now }
+{
+    for happening in told {
+        shift_is_proper(happening);
+    }
+}
+
+fn shift_is_proper(happening: &Happening)
+    ensures { GoesToALane happening.now }
+{
+    if let Happening::Done {
+        act: Act::Gives { to, .. },
+        ..
+    } = happening
+    {
+        number_is_proper(*to);
+    }
+}
+
+/// The number of a machine, a gap or a lane has 32 bits.
 fn number_is_proper(number: u32)
     ensures { number < 2 ^ 32 }
 {
@@ -64,10 +117,4 @@ fn id_is_proper(id: BoardId)
     ensures { id < 2 ^ 128 }
 {
     let _number = id.number();
-}
-
-fn act_is_proper(act: &Act)
-    ensures { IsProperAct act.now }
-{
-    acts_are_proper(std::slice::from_ref(act));
 }

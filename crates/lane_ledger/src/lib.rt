@@ -1,8 +1,0 @@
-//! What a report of several lanes says of records, read off its bytes: the deeds that its lines tell
-//! of each lane, and the ledger that follows them.
-#![tactic(auto)]
-
-pub mod laws;
-mod proper;
-
-pub use proper::lanes_are_proper;
