@@ -26,7 +26,7 @@ use Rattle.line_engine.proofs.Stepped.{place_is}
 use Rattle.line_engine.proofs.Restored.{first_asked, first_is, last_asked, last_is, stepped}
 use Rattle.line_engine.specs.Sharing.{followed, followed_with, following, shared_in, shared_with, sharing, sharing_at, sharing_track_if, unvouched_track}
 use Rattle.line_engine.specs.Tracks.{IsFollowing, IsReady, SharesOf, states_of, with_behind}
-use Rattle.line_engine.specs.declared.tracks.Shares.{Shares}
+use Rattle.line_engine.specs.declared.sharing.Shares.{Shares}
 use Rattle.line_engine.specs.declared.track.Track.{Track}
 
 -- ---- one machine of a list follows

@@ -4,7 +4,7 @@ use Rattle.node_core.specs.Shared.{SharedParts, shared_of, with_shared}
 use Rattle.node_core.specs.Node.{NodeState}
 use Rattle.line_step.specs.State.{LineState, machine_in, one_more}
 use Rattle.line_engine.specs.declared.track.Track.{Track}
-use Rattle.line_engine.specs.declared.tracks.Shares.{Shares}
+use Rattle.line_engine.specs.declared.sharing.Shares.{Shares}
 
 -- each machine's maker has its number
 abbrev pub AreNumbered : LineState → Type 0

@@ -26,7 +26,7 @@ use Rattle.line_engine.specs.Indexed.{Entries, Follows, IsIndexOf, entry_at, ind
 use Rattle.line_engine.specs.Given.{GivesBoard}
 use Rattle.line_engine.specs.Seats.{moved_told, own_seat, seat_beside, seat_listed, seat_told}
 use Rattle.line_engine.specs.Sharing.{AreNumbered, following, shared_in}
-use Rattle.line_engine.specs.declared.tracks.Shares.{Shares}
+use Rattle.line_engine.specs.declared.sharing.Shares.{Shares}
 
 abbrev pub state_of : Track → LineState
 state_of track = track.state

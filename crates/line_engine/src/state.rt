@@ -1,4 +1,4 @@
-ghost use Rattle.std.specs.Prelude.{◌≡◌, ◌≤◌, false, length, option_map, true};
+ghost use Rattle.std.specs.Prelude.{◌≡◌, ◌↔◌, ◌≤◌, false, length, option_map, true};
 ghost use Rattle.node_core.specs.Shared.{shared_of};
 ghost use Rattle.line_engine.specs.Sharing.{AreNumbered, shared_in, sharing};
 ghost use Rattle.line_link.specs.Flow.{coming};
@@ -138,7 +138,7 @@ impl State {
     pub fn shares_alike(&self, machine: u32, other: &State) -> bool
         requires numbered { AreNumbered self.now }
         requires other { AreNumbered other.now }
-        ensures { result ≡ true → shared_in machine self.now ≡ shared_in machine other.now }
+        ensures { (result ≡ true) ↔ (shared_in machine self.now ≡ shared_in machine other.now) }
     {
         match (self.machine(machine), other.machine(machine)) {
             (Some(one), Some(two)) => one.shares_alike(two),

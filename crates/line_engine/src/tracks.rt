@@ -1,23 +1,20 @@
 //! The lanes of a line: a line of the script is done on one of them, on two, or on all.
 
-ghost use Rattle.std.specs.Prelude.{◌≡◌, ◌≢◌, ◌≤◌, ◌<◌, ◌+◌, ◌-◌, ◌^◌, ◌∷◌, ◌++◌, ℕ, IfOk, IfSome, OnOk, drop, if◌then◌else◌, is_some, length, map, not, true};
+ghost use Rattle.std.specs.Prelude.{◌≡◌, ◌≤◌, ◌<◌, ◌+◌, ◌-◌, ◌^◌, ◌∷◌, ◌++◌, ℕ, IfOk, IfSome, OnOk, drop, if◌then◌else◌, is_some, length, map, not, true};
 ghost use Rattle.std.specs.Option.{option_copied};
 ghost use Rattle.line_lanes.specs.Lanes.{counted, has_lane, lines_of, no_lanes};
-ghost use Rattle.line_lanes.specs.Reasons.{may_on, may_set, may_shift};
+ghost use Rattle.line_lanes.specs.Reasons.{may_on};
 ghost use Rattle.line_lanes.specs.Shown.{fronts_shown, shown_on};
 ghost use Rattle.line_lanes.specs.Steps.{LanesDo, RequestDoes};
 ghost use Rattle.line_lanes.specs.Views.{summary_on};
-ghost use Rattle.line_report.specs.Lanes.{told_on};
-ghost use Rattle.line_report.specs.declared.happening.Happening.TheVariants as happenings;
 ghost use Rattle.line_report.specs.declared.happening.Reason.TheVariants as reasons;
 ghost use Rattle.line_script.specs.Ranges.{IsBetween, IsLaneWithin, IsWithin};
 ghost use Rattle.line_script.specs.declared.line.LaneLine.TheVariants as lane_lines;
 ghost use Rattle.line_step.specs.Lines.{LineDoes};
 ghost use Rattle.line_step.specs.Parts.{count_behind};
-ghost use Rattle.line_step.specs.Reasons.{May, may_do, may_give_away, may_take_in, no_if};
+ghost use Rattle.line_step.specs.Reasons.{may_do, no_if};
 ghost use Rattle.line_step.specs.Requests.{adds, request_of, stops};
-ghost use Rattle.line_step.specs.State.{LineState, no_line, one_more};
-ghost use Rattle.line_step.specs.Together.{IsLineTogether};
+ghost use Rattle.line_step.specs.State.{LineState};
 ghost use Rattle.node_core.specs.declared.input.No.TheVariants as nos;
 ghost use Rattle.line_engine.specs.Given.{is_of_lane};
 ghost use Rattle.line_engine.specs.Kept.{is_counted};
@@ -28,31 +25,30 @@ ghost use Rattle.line_engine.specs.declared.seat.Seat.TheVariants.{Nowhere};
 ghost use Rattle.std.specs.Prelude.{◌==◌, SomeIff};
 ghost use Rattle.line_engine.specs.Summed.{added_up, is_told};
 ghost use Rattle.std.specs.List.{AllByRecursion};
-ghost use Rattle.line_engine.specs.Sharing.{AreNumbered, ShareAlike, counted_track, followed_with, grown, shared_in, shared_with, sharing_track, sharing_track_if, unvouched_track};
-ghost use Rattle.line_engine.specs.Tracks.{AreBeside, AreKept, FollowsBoth, FollowsDone, FollowsOne, GivesOn, HasRoom, IsFollowing, IsReady, MayOn, SharesOf, StepsOn, TakesOn, TellsDone, empty_track, empty_tracks, lane_beside, lanes_of, made_told, states_of, track_in};
+ghost use Rattle.line_engine.specs.Sharing.{counted_track, grown};
+ghost use Rattle.line_engine.specs.Tracks.{AreKept, FollowsDone, FollowsOne, HasRoom, IsReady, StepsOn, TellsDone, empty_track, empty_tracks, lanes_of, made_told, states_of, track_in};
 
-use crate::changed::{ids_named, ids_of_both};
+use crate::changed::ids_named;
 use crate::index::{Index, Moved};
 use crate::seat::{Seat, both, own_seat, tell_seat};
 use crate::show::show_front;
 use crate::span::{Span, stepped};
 use crate::state::State;
-use crate::stepping::Gave;
 use crate::track::Track;
 use board_record::BoardId;
 use line_base::Memory;
-use line_report::{Happened, Happening, LaneHappened, Reason, Summary, tell_shift};
+use line_report::{Happened, Happening, LaneHappened, Reason, Summary};
 use line_script::{LaneLine, ScriptLine};
-use node_core::{No, Passage, Shared};
+use node_core::No;
 use std::alloc::Global;
 use std::marker::Model;
 
 /// The lanes of a line, that of the first one first.
 #[derive(Drop)]
 pub struct Tracks {
-    alloc: Global,
-    first: Track,
-    others: Vec<Track>,
+    pub(crate) alloc: Global,
+    pub(crate) first: Track,
+    pub(crate) others: Vec<Track>,
 }
 
 impl Model for Tracks {
@@ -347,7 +343,7 @@ impl Tracks {
         Ok(())
     }
 
-    fn follow(&mut self, lane: u32, span: Span, id: BoardId) -> Result<Moved, Memory>
+    pub(crate) fn follow(&mut self, lane: u32, span: Span, id: BoardId) -> Result<Moved, Memory>
         requires early { span.first ≤ 64 }
         requires ready { IsReady lane self.old }
         ensures { IfOk result (FollowsOne lane span.first span.last id self.old self.new) }
@@ -356,96 +352,6 @@ impl Tracks {
             return self.first.follow(lane, span, id);
         }
         self.others[lane as usize - 2].follow(lane, span, id)
-    }
-
-    // ---- what lanes share
-
-    /// The other lanes follow this one, where it has something else to share than they have.
-    fn share_changed(&mut self, lane: u32, span: Span)
-        requires ready { IsReady lane self.old }
-        requires beside { AreBeside lane self.old }
-        ensures { IsFollowing lane span.first span.last self.old self.new }
-    {
-        if self.is_shared(lane, span) {
-            return;
-        }
-        self.share(lane, span);
-    }
-
-    /// Whether the other lanes have what this one has to share, at the machines that may have
-    /// stepped. They are alike, so one of them tells.
-    fn is_shared(&self, lane: u32, span: Span) -> bool
-        requires ready { IsReady lane self.now }
-        requires beside { AreBeside lane self.now }
-        ensures { result ≡ true → IsFollowing lane span.first span.last self.now self.now }
-    {
-        match (self.track(lane), self.track(lane_beside(lane))) {
-            (Some(own), Some(other)) => are_alike(&own.state, &other.state, span),
-            (_, _) => true,
-        }
-    }
-
-    /// The other lanes follow this one, at the machines that may have stepped.
-    fn share(&mut self, lane: u32, span: Span)
-        requires ready { IsReady lane self.old }
-        ensures { IsFollowing lane span.first span.last self.old self.new }
-    {
-        if self.others.as_slice().is_empty() {
-            return;
-        }
-        let shares = self.shares(lane, span);
-        self.follow_all(span, &shares);
-    }
-
-    /// What a lane has to share at the machines that may have stepped.
-    fn shares(&self, lane: u32, span: Span) -> Shares
-        requires ready { IsReady lane self.now }
-        ensures { SharesOf lane span.first span.last self.now result }
-    {
-        if lane == 1 {
-            return shares_of(&self.first, span);
-        }
-        shares_of(&self.others[lane as usize - 2], span)
-    }
-
-    fn follow_all(&mut self, span: Span, shares: &Shares)
-        ensures { self.new ≡ map (followed_with span.first span.last shares.now) self.old }
-    {
-        self.follow_machines(span, shares);
-        self.follow_unvouched(shares.unvouched);
-    }
-
-    fn follow_machines(&mut self, span: Span, shares: &Shares)
-        ensures { self.new ≡ map (shared_with span.first span.last shares.now) self.old }
-    {
-        self.follow_shared(span.last, &shares.last);
-        if span.first == span.last {
-            return;
-        }
-        self.follow_shared(span.first, &shares.first);
-    }
-
-    fn follow_shared(&mut self, machine: u32, shared: &Option<Shared>)
-        ensures { self.new ≡ map (sharing_track_if machine shared.now) self.old }
-    {
-        match shared {
-            None => {}
-            Some(shared) => self.follow_some(machine, shared),
-        }
-    }
-
-    fn follow_some(&mut self, machine: u32, shared: &Shared)
-        ensures { self.new ≡ map (sharing_track machine shared.now) self.old }
-    {
-        self.first.state.share(machine, shared);
-        share_all(self.others.as_mut_slice(), machine, shared);
-    }
-
-    fn follow_unvouched(&mut self, unvouched: Option<u64>)
-        ensures { self.new ≡ map (unvouched_track unvouched) self.old }
-    {
-        self.first.state.set_unvouched(unvouched);
-        unvouch_all(self.others.as_mut_slice(), unvouched);
     }
 
     // ---- lines of all lanes
@@ -537,158 +443,6 @@ impl Tracks {
         show_others(self.others.as_slice(), before, told)
     }
 
-    // ---- a board goes to another lane
-
-    /// `NoSuchMachine`, `NoLane`, `Bridge`, `Same`, `NotKept`, `NotHere`, `WasOffered`,
-    /// `IntakeOpen`, `Full`.
-    fn may_shift(&self, machine: u32, from: u32, to: u32, id: BoardId) -> Result<(), Reason>
-        requires { AreKept self.now }
-        ensures { result ≡ may_shift machine from to id (lanes_of self.now) }
-    {
-        if let Err(reason) = self.first.state.may_find(machine) {
-            return Err(reason);
-        }
-        let Some(giver) = self.track(from) else {
-            return Err(Reason::Node(No::NoLane));
-        };
-        let Some(taker) = self.track(to) else {
-            return Err(Reason::Node(No::NoLane));
-        };
-        if self.first.state.is_bridge(machine) {
-            return Err(Reason::Node(No::Bridge));
-        }
-        if from == to {
-            return Err(Reason::Node(No::Same));
-        }
-        match giver.state.may_give_away(machine, id) {
-            Ok(()) => taker.state.may_take_in(machine),
-            Err(reason) => Err(reason),
-        }
-    }
-
-    fn shift(
-        &mut self,
-        number: u64,
-        machine: u32,
-        from: u32,
-        to: u32,
-        id: BoardId,
-        told: &mut LaneHappened,
-    ) -> Result<(), Memory>
-        requires few { number ≤ 1000000 }
-        requires within { IsBetween 1 64 machine }
-        requires kept { AreKept self.old }
-        ensures step { OnOk result
-            (TellsDone (LanesDo number (lane_lines.Shift machine from to id)) self.old self.new
-            told.old told.new) }
-        ensures numbers { OnOk result
-            (lines_of (lanes_of self.new) ≡ lines_of (lanes_of self.old)) }
-        ensures kept { OnOk result (AreKept self.new) }
-    {
-        match self.may_shift(machine, from, to, id) {
-            Ok(()) => self.do_shift(number, machine, from, to, id, told),
-            Err(reason) => told.tell(1, Happening::No(reason)),
-        }
-    }
-
-    /// Does a shift against which nothing stands.
-    fn do_shift(
-        &mut self,
-        number: u64,
-        machine: u32,
-        from: u32,
-        to: u32,
-        id: BoardId,
-        told: &mut LaneHappened,
-    ) -> Result<(), Memory>
-        requires few { number ≤ 1000000 }
-        requires within { IsBetween 1 64 machine }
-        requires kept { AreKept self.old }
-        requires may { may_shift machine from to id (lanes_of self.old) ≡ may_do }
-        ensures step { OnOk result
-            (TellsDone (LanesDo number (lane_lines.Shift machine from to id)) self.old self.new
-            told.old told.new) }
-        ensures numbers { OnOk result
-            (lines_of (lanes_of self.new) ≡ lines_of (lanes_of self.old)) }
-        ensures kept { OnOk result (AreKept self.new) }
-    {
-        let gave = self.give_away(number, machine, from, id, to)?;
-        let span = Span::one(machine);
-        self.share(from, span);
-        let got = self.take_in(number, machine, to, gave.board)?;
-        self.share(to, span);
-        self.tell_shifted(machine, from, to, gave.told, got, told)
-    }
-
-    fn give_away(
-        &mut self,
-        number: u64,
-        machine: u32,
-        from: u32,
-        id: BoardId,
-        to: u32,
-    ) -> Result<Gave, Memory>
-        requires few { number ≤ 1000000 }
-        requires may { MayOn from (may_give_away machine id) self.old }
-        ensures { IfOk result
-            (λ gave. GivesOn number machine from id to self.old self.new gave.told gave.board) }
-    {
-        if from == 1 {
-            return self.first.state.give_away(number, machine, id, to);
-        }
-        self.others[from as usize - 2]
-            .state
-            .give_away(number, machine, id, to)
-    }
-
-    fn take_in(
-        &mut self,
-        number: u64,
-        machine: u32,
-        to: u32,
-        board: Passage,
-    ) -> Result<Happened, Memory>
-        requires few { number ≤ 1000000 }
-        requires may { MayOn to (may_take_in machine) self.old }
-        ensures { IfOk result (TakesOn number machine to board self.old self.new) }
-    {
-        if to == 1 {
-            return self.first.state.take_in(number, machine, board);
-        }
-        self.others[to as usize - 2]
-            .state
-            .take_in(number, machine, board)
-    }
-
-    /// Tells a shift, and the standings that it changed; the indexes of both lanes follow.
-    fn tell_shifted(
-        &mut self,
-        machine: u32,
-        from: u32,
-        to: u32,
-        given: Happened,
-        got: Happened,
-        told: &mut LaneHappened,
-    ) -> Result<(), Memory>
-        requires early { machine ≤ 64 }
-        requires apart { from ≢ to }
-        requires few { length self.old ≤ 4 }
-        requires from { IsReady from self.old }
-        requires to { IsReady to self.old }
-        ensures { OnOk result
-            (FollowsBoth machine from to given got self.old self.new told.old told.new) }
-    {
-        let ids = ids_of_both(self.alloc, given.list(), got.list())?;
-        tell_shift(from, given, to, got, told)?;
-        for id in &ids {
-            let was = self.seat(*id);
-            let _given = self.follow(from, Span::one(machine), *id)?;
-            let _got = self.follow(to, Span::one(machine), *id)?;
-            tell_seat(*id, was, self.seat(*id), told)?;
-        }
-        Ok(())
-    }
-
     // ---- views
 
     /// The numbers of the report's last line; `None` where one of them is past what is counted.
@@ -772,48 +526,6 @@ fn show_others(tracks: &[Track], before: u32, told: &mut LaneHappened) -> Result
     Ok(())
 }
 
-/// What a lane has to share at the machines of a span, and from which line on nobody vouches for it.
-#[derive(Drop)]
-struct Shares {
-    last: Option<Shared>,
-    first: Option<Shared>,
-    unvouched: Option<u64>,
-}
-
-/// Whether two lanes have the same to share, at the machines of a span.
-fn are_alike(one: &State, other: &State, span: Span) -> bool
-    requires one { AreNumbered one.now }
-    requires other { AreNumbered other.now }
-    ensures { result ≡ true → ShareAlike span.first span.last one.now other.now }
-{
-    one.unvouched() == other.unvouched()
-        && one.shares_alike(span.last, other)
-        && (span.first == span.last || one.shares_alike(span.first, other))
-}
-
-/// Another lane than this one.
-fn lane_beside(lane: u32) -> u32
-    ensures { result ≡ lane_beside lane }
-{
-    if lane == 1 {
-        return 2;
-    }
-    1
-}
-
-fn shares_of(track: &Track, span: Span) -> Shares
-    requires { AreNumbered track.now.state }
-    ensures last { result.last ≡ shared_in span.last track.now.state }
-    ensures first { result.first ≡ shared_in span.first track.now.state }
-    ensures unvouched { result.unvouched ≡ track.now.state.unvouched }
-{
-    Shares {
-        last: track.state.shared(span.last),
-        first: track.state.shared(span.first),
-        unvouched: track.state.unvouched(),
-    }
-}
-
 /// What the index of a lane has of a board, unless it is this lane.
 fn seat_unless(own: u32, lane: u32, track: &Track, id: BoardId) -> Seat
     ensures { result
@@ -868,24 +580,6 @@ fn count_all(tracks: &mut [Track], lines: u64)
 {
     for track in tracks.iter_mut() {
         track.state.set_lines(lines);
-    }
-}
-
-/// A machine on each lane follows another of its lanes.
-fn share_all(tracks: &mut [Track], machine: u32, shared: &Shared)
-    ensures { tracks.new ≡ map (sharing_track machine shared.now) tracks.old }
-{
-    for track in tracks.iter_mut() {
-        track.state.share(machine, shared);
-    }
-}
-
-/// Nobody vouches for any lane from this line on, if there is one.
-fn unvouch_all(tracks: &mut [Track], unvouched: Option<u64>)
-    ensures { tracks.new ≡ map (unvouched_track unvouched) tracks.old }
-{
-    for track in tracks.iter_mut() {
-        track.state.set_unvouched(unvouched);
     }
 }
 

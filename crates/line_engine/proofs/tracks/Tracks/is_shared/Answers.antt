@@ -12,7 +12,7 @@ are_alike-requires-clause-other c =
 pub returns-in-Some-Some : goal.returns-in-Some-Some
 returns-in-Some-Some c =
     λ is. unchanged c.args.lane (lane_beside c.args.lane) c.args.span.first c.args.span.last c.args.self.now c.in-Some-Some.own.now c.in-Some-Some.other.now (beside_apart c.args.lane) c.requires.beside (sym c.in-Some-Some.ensures)
-    (ap (λ (n : ℕ). track_in n c.args.self.now) (sym c.lane_beside.ensures) ∙ sym c.in-Some-Some.ensures') (c.are_alike.ensures is)
+    (ap (λ (n : ℕ). track_in n c.args.self.now) (sym c.lane_beside.ensures) ∙ sym c.in-Some-Some.ensures') (c.are_alike.ensures.0 is)
 
 pub returns-in_default : goal.returns-in_default
 returns-in_default c =

@@ -4,7 +4,7 @@ use Rattle.line_step.specs.State.{LineState}
 use Rattle.line_engine.specs.Sharing.{sharing_track}
 use Rattle.line_engine.specs.declared.track.Track.{Track}
 use Rattle.line_engine.proofs.Mapped.{loop_next, mapped_end}
-use Rattle.line_engine.proofs.tracks.share_all.Goals as goal
+use Rattle.line_engine.proofs.sharing.share_all.Goals as goal
 
 pub loop-track-preserved : goal.loop-track-preserved
 loop-track-preserved c =
