@@ -12,6 +12,7 @@ use Rattle.report_ledger.specs.Standings.{LaneReportTellsStandings}
 use Rattle.line_cli.specs.Deeds.{EachFrontTellsItsLedger, EachReportTellsItsLedger, EachReportTellsItsStandings, EachReportTellsItsStarts}
 use Rattle.line_commands.specs.Report.{ending}
 use Rattle.line_commands.specs.Script.{script_of}
+use Rattle.line_commands.proofs.LastLine.{ending_unnumbered}
 use Rattle.line_commands.proofs.FitScript.{scripts_are_fit}
 
 -- WHATEVER BYTES A SCRIPT IS READ FROM

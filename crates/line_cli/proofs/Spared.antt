@@ -7,8 +7,8 @@ use Rattle.line_check.specs.declared.why.CheckWhy.{CheckWhy}
 use Rattle.running_line.specs.Reading.{Behind, Freely, Reading, Strictly}
 use Rattle.running_logs.specs.Right.{IsOfRunning, IsWithin, LogIsRight}
 use Rattle.line_commands.specs.Command.{DoesAs}
-use Rattle.line_commands.specs.declared.status.Status.{Status}
-use Rattle.line_commands.specs.declared.status.Status.TheVariants as statuses
+use Rattle.line_status.specs.declared.status.Status.{Status}
+use Rattle.line_status.specs.declared.status.Status.TheVariants as statuses
 use Rattle.line_cli.specs.Right.{IsPromised, SparesRight}
 
 -- a log alone is refuted, and only for a reason that is against it

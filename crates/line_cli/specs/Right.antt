@@ -3,8 +3,8 @@ use Rattle.std.specs.Prelude.{ℕ, List, Option, None, Some}
 use Rattle.std.specs.Str.Lines.{lines}
 use Rattle.running_line.specs.Reading.{Behind, Freely, Reading, Strictly}
 use Rattle.running_logs.specs.Right.{IsOfRunning, IsWithin}
-use Rattle.line_commands.specs.declared.status.Status.{Status}
-use Rattle.line_commands.specs.declared.status.Status.TheVariants.{Refuted}
+use Rattle.line_status.specs.declared.status.Status.{Status}
+use Rattle.line_status.specs.declared.status.Status.TheVariants.{Refuted}
 
 abbrev pub IsNoRefusal : Status → Type 0
 IsNoRefusal (Refuted line why) = ⊥

@@ -3,7 +3,7 @@
 ghost use Rattle.std.specs.Prelude.{◌≡◌, ℕ, List};
 ghost use Rattle.line_commands.specs.Answered.{EachInputHasOneAnswer};
 ghost use Rattle.line_commands.specs.Making.{IsMakeText};
-ghost use Rattle.line_commands.specs.ReadText.{IsReadText};
+ghost use Rattle.stream_text.specs.ReadText.{IsReadText};
 ghost use Rattle.line_commands.specs.Report.{IsReport};
 ghost use Rattle.line_cli.specs.Tracks.{EachFrontIsRun, EachLaneIsRun, EachRecordHasOneLane, EachRecordStandsOnLanes};
 

@@ -8,16 +8,17 @@ use Rattle.line_lanes.specs.Parts.{all_points}
 use Rattle.line_lanes.specs.Views.{has_lie_on}
 use Rattle.line_commands.specs.Answered.{Answers, EachInputHasOneAnswer, IsAnswered, IsScriptAnswer, answered, log_answer, memory_wanted, sink_failed, source_failed, stream_answer}
 use Rattle.line_commands.specs.Checking.{Checks}
-use Rattle.line_commands.specs.Command.{DoesAs, HasCauses, RunsScript, status_of}
+use Rattle.line_commands.specs.Command.{DoesAs, RunsScript, status_of}
+use Rattle.line_status.specs.Status.{HasCauses}
 use Rattle.line_commands.specs.Making.{Makes}
-use Rattle.line_commands.specs.ReadText.{most_read}
+use Rattle.stream_text.specs.ReadText.{most_read}
 use Rattle.line_commands.specs.Script.{script_of}
-use Rattle.line_commands.specs.Stream.{ReadsStream}
+use Rattle.stream_text.specs.Stream.{ReadsStream}
 use Rattle.line_commands.proofs.Fronts.{script_sets}
-use Rattle.line_commands.specs.declared.status.InputWhy.{InputWhy}
-use Rattle.line_commands.specs.declared.status.InputWhy.TheVariants as inputs
-use Rattle.line_commands.specs.declared.status.Status.{Status}
-use Rattle.line_commands.specs.declared.status.Status.TheVariants as statuses
+use Rattle.line_status.specs.declared.status.InputWhy.{InputWhy}
+use Rattle.line_status.specs.declared.status.InputWhy.TheVariants as inputs
+use Rattle.line_status.specs.declared.status.Status.{Status}
+use Rattle.line_status.specs.declared.status.Status.TheVariants as statuses
 
 -- ---- the program's answer
 

@@ -4,8 +4,9 @@ use Rattle.log_verdict.specs.Verdict as verdicts
 use Rattle.log_verdict.specs.declared.checked.Checked.{Checked}
 use Rattle.log_verdict.specs.declared.checked.Checked.TheVariants as ends
 use Rattle.line_commands.specs.Checking.{Checks, status_by}
-use Rattle.line_commands.specs.Command.{HasCauses, IsCheckStatus}
-use Rattle.line_commands.specs.declared.status.Status.{Status}
+use Rattle.line_status.specs.Status.{HasCauses}
+use Rattle.line_commands.specs.Command.{IsCheckStatus}
+use Rattle.line_status.specs.declared.status.Status.{Status}
 
 checks_end : (left_old left_new old new : Option (List ℕ)) (checked : Checked) → verdicts.Checks left_old left_new old new checked → Checks left_old left_new old new (status_by checked)
 checks_end left_old left_new old new ends.Done checks = checks

@@ -1,6 +1,5 @@
 -- How a run goes on, and how it ends.
 use Rattle.std.proofs.Common.{◌≡◌, ◌≤◌, ◌+◌, ℕ, Bool, List, [], ◌++◌, Option, None, Some, Ok, Err, is_some, length, option_map, refl, sym, ap, subst, ◌∙◌, append_assoc, append-nil, arith}
-use Rattle.line_outside.specs.Faults.{Rose}
 use Rattle.line_outside.specs.Sink.{Grows, GrowsInPart, PushesAll}
 use Rattle.line_outside.specs.declared.pushing.Pushed.{Pushed}
 use Rattle.line_outside.specs.declared.pushing.Pushed.TheVariants as pushes
@@ -19,12 +18,14 @@ use Rattle.line_commands.specs.Report.{ending, report_text}
 use Rattle.line_commands.specs.LineEnds.{HasNoEnd}
 use Rattle.line_commands.specs.Reader.{Place, Advances, Takes, Refuses, RefusesIn, SumsUp, Finishes, script_behind}
 use Rattle.line_commands.specs.Stops.{AreAccepted, StopsIn, at_its_end, in_a_piece}
-use Rattle.line_commands.specs.Command.{Runs, RunsScript, WritesReport, WritesFront, HasCauses, status_of}
-use Rattle.line_commands.specs.Ending.{IsGoing, GoesOn, HasPushed, EndsWhole, EndsRefused}
+use Rattle.line_commands.specs.Command.{Runs, RunsScript, WritesReport, WritesFront, status_of}
+use Rattle.line_status.specs.Status.{HasCauses}
+use Rattle.line_commands.specs.Ending.{IsGoing, GoesOn, EndsWhole, EndsRefused}
+use Rattle.line_status.specs.Pieces.{HasPushed}
 use Rattle.line_commands.specs.declared.script_run.RunError.{RunError}
 use Rattle.line_commands.specs.declared.script_run.RunError.TheVariants as errors
-use Rattle.line_commands.specs.declared.status.Status.{Status}
-use Rattle.line_commands.specs.declared.status.Status.TheVariants as statuses
+use Rattle.line_status.specs.declared.status.Status.{Status}
+use Rattle.line_status.specs.declared.status.Status.TheVariants as statuses
 use Rattle.line_commands.proofs.Fronts.{ScriptsRun, first_begins, script_sets}
 use Rattle.line_commands.proofs.LastLine.{ending_unnumbered}
 use Rattle.line_commands.proofs.Steps.{behind-behind, proper-done}
@@ -349,10 +350,3 @@ causes-whole unvouched now now' text (statuses.ScriptRefused line reason) reads 
 causes-whole unvouched now now' text statuses.ReadFault reads reads' writes before after r w ends = absurd ends
 causes-whole unvouched now now' text statuses.WriteFault reads reads' writes before after r w ends = record { reads = r; writes = omega (arith, w, ends.0); read_fault = λ is. cc; write_fault = λ is. rose_after writes before after w ends.0 ends.1 }
 causes-whole unvouched now now' text statuses.Memory reads reads' writes before after r w ends = absurd ends
-
-pub causes-write_fault : (reads reads' writes before after : ℕ) → reads ≤ reads' → writes ≤ before → before ≤ after → Rose before after → HasCauses statuses.WriteFault reads reads' writes after
-causes-write_fault reads reads' writes before after r w more rose = record { reads = r; writes = omega arith; read_fault = λ is. cc; write_fault = λ is. rose_after writes before after w more rose }
-
-pub causes-read_fault : (pushed : Pushed) (now now' : Option (List ℕ)) (text : List ℕ) (reads reads' reads'' writes before after : ℕ) → reads ≤ reads' → reads' ≤ reads'' → Rose reads' reads'' → writes ≤ before → PushesAll now now' before after text pushed → HasCauses statuses.ReadFault reads reads'' writes after
-causes-read_fault pushes.Whole now now' text reads reads' reads'' writes before after r r' rose w pushed = record { reads = omega arith; writes = omega (arith, w, pushed.0); read_fault = λ is. rose_after reads reads' reads'' r r' rose; write_fault = λ is. cc }
-causes-read_fault pushes.Failed now now' text reads reads' reads'' writes before after r r' rose w pushed = record { reads = omega arith; writes = omega (arith, w, pushed.0); read_fault = λ is. rose_after reads reads' reads'' r r' rose; write_fault = λ is. cc }

@@ -4,10 +4,6 @@ pub mod Folding
 pub mod Fronts
 pub mod LastLine
 pub mod Going
-pub mod ReadFrames
-pub mod ReadFronts
-pub mod ReadSteps
 pub mod Checked
 pub mod FitScript
-pub mod Copied
 pub mod AnsweredOnce

@@ -8,11 +8,11 @@ use Rattle.line_lanes.specs.Lanes.{no_lanes}
 use Rattle.line_lanes.specs.Parts.{IsLaneRun, LanePoint, all_points}
 use Rattle.line_lanes.specs.Views.{has_lie_on}
 use Rattle.line_commands.specs.Command.{status_of}
-use Rattle.line_commands.specs.ReadText.{most_read}
+use Rattle.stream_text.specs.ReadText.{most_read}
 use Rattle.line_commands.specs.Script.{script_of}
-use Rattle.line_commands.specs.declared.status.InputWhy.TheVariants as inputs
-use Rattle.line_commands.specs.declared.status.Status.{Status}
-use Rattle.line_commands.specs.declared.status.Status.TheVariants as statuses
+use Rattle.line_status.specs.declared.status.InputWhy.TheVariants as inputs
+use Rattle.line_status.specs.declared.status.Status.{Status}
+use Rattle.line_status.specs.declared.status.Status.TheVariants as statuses
 
 -- the answer of a script: its first refusal, and else whether a line told what was not so
 pub record IsScriptAnswer (script : List ℕ) (status : Status) : Type 0 where

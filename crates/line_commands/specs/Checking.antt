@@ -3,8 +3,8 @@ use Rattle.std.specs.Prelude.{ℕ, List, Option}
 use Rattle.log_verdict.specs.Verdict as verdicts
 use Rattle.log_verdict.specs.declared.checked.Checked.{Checked}
 use Rattle.log_verdict.specs.declared.checked.Checked.TheVariants as ends
-use Rattle.line_commands.specs.declared.status.Status.{Status}
-use Rattle.line_commands.specs.declared.status.Status.TheVariants as statuses
+use Rattle.line_status.specs.declared.status.Status.{Status}
+use Rattle.line_status.specs.declared.status.Status.TheVariants as statuses
 
 -- how a check ends, as the end of a call of the program
 abbrev pub status_by : Checked → Status

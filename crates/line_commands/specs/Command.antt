@@ -1,6 +1,5 @@
-use Rattle.std.specs.Prelude.{◌≡◌, ◌<◌, ◌≤◌, ℕ, List, [], ◌∷◌, Bool, true, false, Option, None, Some, codes}
+use Rattle.std.specs.Prelude.{◌≡◌, ◌<◌, ℕ, List, [], ◌∷◌, Bool, true, false, Option, None, Some, codes}
 use Rattle.std.specs.Str.{bytes_eq}
-use Rattle.line_outside.specs.Faults.{Rose}
 use Rattle.line_outside.specs.Sink.{Grows, PushesAll}
 use Rattle.line_outside.specs.declared.pushing.Pushed.{Pushed}
 use Rattle.line_commands.specs.Script.{Refusal, script_of}
@@ -10,23 +9,12 @@ use Rattle.line_commands.specs.Stops.{StopsIn}
 use Rattle.line_lanes.specs.Lanes.{no_lanes}
 use Rattle.line_lanes.specs.Parts.{IsLaneRun, LanePoint, all_points}
 use Rattle.line_lanes.specs.Views.{has_lie_on}
-use Rattle.line_commands.specs.Stream.{Reads}
+use Rattle.stream_text.specs.Stream.{IsReadStatus, Reads}
 use Rattle.line_commands.specs.Checking.{Checks}
 use Rattle.line_commands.specs.Making.{Makes, IsMakeStatus}
-use Rattle.line_commands.specs.declared.status.Status.{Status}
-use Rattle.line_commands.specs.declared.status.Status.TheVariants as statuses
-use Rattle.line_commands.specs.declared.status.InputWhy.TheVariants as inputs
-
--- the number with which the program ends
-abbrev pub exit_number : Status → ℕ
-exit_number statuses.Done = 0
-exit_number statuses.Usage = 2
-exit_number (statuses.ScriptRefused line why) = 3
-exit_number statuses.ReadFault = 4
-exit_number statuses.WriteFault = 5
-exit_number statuses.Memory = 6
-exit_number statuses.Unvouched = 7
-exit_number (statuses.Refuted line why) = 8
+use Rattle.line_status.specs.declared.status.Status.{Status}
+use Rattle.line_status.specs.declared.status.Status.TheVariants as statuses
+use Rattle.line_status.specs.declared.status.InputWhy.TheVariants as inputs
 
 abbrev pub usage_text : List ℕ
 usage_text = codes "usage: line run | line read | line check | line make <number>\n"
@@ -134,18 +122,6 @@ IsRunStatus statuses.Memory = Unit {0}
 IsRunStatus statuses.Unvouched = Unit {0}
 IsRunStatus (statuses.Refuted line why) = ⊥
 
--- and what `read` may answer: a stream is refused for its size alone
-abbrev pub IsReadStatus : Status → Type 0
-IsReadStatus statuses.Done = Unit {0}
-IsReadStatus statuses.Usage = ⊥
-IsReadStatus (statuses.ScriptRefused line (inputs.Line why)) = ⊥
-IsReadStatus (statuses.ScriptRefused line inputs.TooLarge) = line ≡ 0
-IsReadStatus statuses.ReadFault = Unit {0}
-IsReadStatus statuses.WriteFault = Unit {0}
-IsReadStatus statuses.Memory = Unit {0}
-IsReadStatus statuses.Unvouched = ⊥
-IsReadStatus (statuses.Refuted line why) = ⊥
-
 -- and what `check` may answer: a log is refuted, and not refused
 abbrev pub IsCheckStatus : Status → Type 0
 IsCheckStatus statuses.Done = Unit {0}
@@ -165,11 +141,3 @@ FitsWords false true checks made status = IsReadStatus status
 FitsWords false false true made status = IsCheckStatus status
 FitsWords false false false (Some number) status = IsMakeStatus status
 FitsWords false false false None status = status ≡ statuses.Usage
-
--- no count of faults falls, and a fault comes only where the count of that object rose
-pub record HasCauses (status : Status)
-    (reads_before reads_now writes_before writes_now : ℕ) : Type 0 where
-  pub reads : reads_before ≤ reads_now
-  pub writes : writes_before ≤ writes_now
-  pub read_fault : status ≡ statuses.ReadFault → Rose reads_before reads_now
-  pub write_fault : status ≡ statuses.WriteFault → Rose writes_before writes_now

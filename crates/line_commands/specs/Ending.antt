@@ -1,7 +1,6 @@
 use Rattle.std.specs.Prelude.{◌≡◌, ◌≤◌, ◌++◌, ℕ, Bool, true, false, List, Option, None, Some}
 use Rattle.line_outside.specs.Faults.{Rose}
 use Rattle.line_outside.specs.Sink.{Grows, GrowsInPart}
-use Rattle.line_outside.specs.declared.pushing.Pushed.{Pushed}
 use Rattle.line_outside.specs.declared.pushing.Pushed.TheVariants as pushes
 use Rattle.line_script.specs.declared.line.LaneLine.{LaneLine}
 use Rattle.line_lanes.specs.Lanes.{no_lanes}
@@ -12,9 +11,9 @@ use Rattle.line_commands.specs.Script.{script_of, behind_lines}
 use Rattle.line_commands.specs.Reader.{Place, script_behind}
 use Rattle.line_commands.specs.declared.script_run.RunError.{RunError}
 use Rattle.line_commands.specs.declared.script_run.RunError.TheVariants as errors
-use Rattle.line_commands.specs.declared.status.Status.{Status}
-use Rattle.line_commands.specs.declared.status.Status.TheVariants as statuses
-use Rattle.line_commands.specs.declared.status.InputWhy.TheVariants as inputs
+use Rattle.line_status.specs.declared.status.Status.{Status}
+use Rattle.line_status.specs.declared.status.Status.TheVariants as statuses
+use Rattle.line_status.specs.declared.status.InputWhy.TheVariants as inputs
 
 -- WHILE THE RUN GOES ON: some lines of the script were done, what was pushed and what waits to be
 -- written tells of them, and the others are still to come
@@ -39,19 +38,6 @@ abbrev pub GoesOn : Option (List ℕ) → Option (List ℕ) → Option (List ℕ
 GoesOn None left old now place text = Unit {0}
 GoesOn (Some script) None old now place text = ⊥
 GoesOn (Some script) (Some rest) old now place text = IsGoing script rest old now place text
-
--- some of what waits was pushed, and the rest still waits
-pub record HasPushed (old now : Option (List ℕ)) (text_old text_new : List ℕ) : Type 0 where
-  pub pushed : List ℕ
-  pub parts : pushed ++ text_new ≡ text_old
-  pub grows : Grows old now pushed
-
-abbrev pub PushesFull : Pushed → Option (List ℕ) → Option (List ℕ) → ℕ → ℕ → List ℕ → List ℕ
-    → Type 0
-PushesFull pushes.Whole old new before now text_old text_new =
-    (before ≤ now) × HasPushed old new text_old text_new
-PushesFull pushes.Failed old new before now text_old text_new =
-    (before ≤ now) × Rose before now × GrowsInPart old new text_old
 
 -- how a run ends behind its script, a line of which told what was not so, or none did
 abbrev pub EndsWhole : Bool → Option (List ℕ) → Option (List ℕ) → ℕ → ℕ → List ℕ → Status → Type 0

@@ -8,8 +8,5 @@ pub mod Making
 pub mod Command
 pub mod Checking
 pub mod Ending
-pub mod ReadText
-pub mod Stream
-pub mod StreamReader
 pub mod Premises
 pub mod Answered

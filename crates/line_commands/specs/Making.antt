@@ -14,8 +14,8 @@ use Rattle.line_lanes.specs.Views.{lanes_text, summary_on}
 use Rattle.made_script.specs.Fold.{fold_from, fold_of}
 use Rattle.made_script.specs.Script.{made_script}
 use Rattle.line_commands.specs.Report.{report_text}
-use Rattle.line_commands.specs.declared.status.Status.{Status}
-use Rattle.line_commands.specs.declared.status.Status.TheVariants as statuses
+use Rattle.line_status.specs.declared.status.Status.{Status}
+use Rattle.line_status.specs.declared.status.Status.TheVariants as statuses
 
 -- a number that can be read
 abbrev pub readable : Result ℕ LineWhy → Option ℕ

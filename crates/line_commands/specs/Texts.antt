@@ -3,10 +3,6 @@ use Rattle.std.specs.Fmt.{decimal}
 use Rattle.line_script.specs.Words.{why_text}
 use Rattle.line_script.specs.declared.line.LineWhy.{LineWhy}
 
--- one line of what is read of a stream
-abbrev pub entry : ℕ → List ℕ → List ℕ
-entry number text = decimal number ++ codes " " ++ text ++ codes "\n"
-
 -- the report's last line where a line of the script was refused
 abbrev pub refused_text : ℕ → LineWhy → List ℕ
 refused_text number why =

@@ -1,9 +1,10 @@
 ghost use Rattle.std.specs.Prelude.{◌≡◌};
 ghost use Rattle.line_commands.specs.Checking.{Checks, status_by};
-ghost use Rattle.line_commands.specs.Command.{HasCauses, IsCheckStatus};
+ghost use Rattle.line_status.specs.Status.{HasCauses};
+ghost use Rattle.line_commands.specs.Command.{IsCheckStatus};
 
-use crate::status::Status;
 use line_outside::{Sink, Source};
+use line_status::Status;
 use log_verdict::{Checked, check_log};
 use std::alloc::Global;
 

@@ -1,16 +1,17 @@
 ghost use Rattle.std.specs.Prelude.{◌≡◌};
 ghost use Rattle.line_commands.specs.Answered.{IsAnswered};
-ghost use Rattle.line_commands.specs.Command.{DoesAs, FitsWords, HasCauses, is_word, is_run, is_read, is_check};
+ghost use Rattle.line_commands.specs.Command.{DoesAs, FitsWords, is_word, is_run, is_read, is_check};
+ghost use Rattle.line_status.specs.Status.{HasCauses};
 ghost use Rattle.line_commands.specs.Making.{made_number};
 
 use crate::checking::check_merged;
 use crate::making::{made_number, write_made};
-use crate::reading::read_stream;
 use crate::running::run_script;
-use crate::status::Status;
 use line_base::{Word, Words};
 use line_outside::{Sink, Source, push_all};
+use line_status::Status;
 use std::alloc::Global;
+use stream_text::read_stream;
 
 /// What is written where the words are none of the program's forms.
 const USAGE: &str = "usage: line run | line read | line check | line make <number>\n";

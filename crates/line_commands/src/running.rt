@@ -1,17 +1,15 @@
-ghost use Rattle.std.specs.Prelude.{◌≡◌, ◌<◌, ◌≤◌, [], length, take};
+ghost use Rattle.std.specs.Prelude.{◌≡◌, ◌<◌, ◌≤◌, [], length};
 ghost use Rattle.line_lanes.specs.Lanes.{no_lanes};
-ghost use Rattle.line_commands.specs.Command.{Runs, HasCauses, IsRunStatus};
+ghost use Rattle.line_commands.specs.Command.{Runs, IsRunStatus};
+ghost use Rattle.line_status.specs.Status.{HasCauses};
 ghost use Rattle.line_commands.specs.Reader.{IsNumbered};
-ghost use Rattle.line_commands.specs.Ending.{PushesFull, EndsWhole, EndsRefused};
+ghost use Rattle.line_commands.specs.Ending.{EndsWhole, EndsRefused};
 
 use crate::script_reader::ScriptReader;
 use crate::script_run::RunError;
-use crate::status::{InputWhy, Status};
 use line_outside::{Pull, Pushed, Sink, Source, push_all};
+use line_status::{InputWhy, PIECE_BYTES, Status, front, push_full};
 use std::alloc::Global;
-
-/// How many bytes of the script are pulled at a time, and of how many the report is pushed.
-pub(crate) const PIECE_BYTES: usize = 65_536;
 
 /// Runs the script that the source has, and writes its report.
 pub fn run_script<S: Source, K: Sink>(alloc: Global, script: &mut S, report: &mut K) -> Status
@@ -78,27 +76,6 @@ fn run_pieces<S: Source, K: Sink>(
             }
         }
     }
-}
-
-/// The first bytes of a room.
-pub(crate) fn front(room: &[u8], count: usize) -> &[u8]
-    requires { count ≤ length room.now }
-    ensures { result.now ≡ take count room.now }
-{
-    &room[..count]
-}
-
-/// Pushes what waits to be written, if there is a big piece of it.
-pub(crate) fn push_full<K: Sink>(text: &mut Vec<u8>, report: &mut K) -> Pushed
-    ensures { PushesFull result (K.contents report.old) (K.contents report.new)
-        (K.faults report.old) (K.faults report.new) text.old.items text.new.items }
-{
-    if text.len() < PIECE_BYTES {
-        return Pushed::Whole;
-    }
-    let pushed = push_all(report, text.as_slice());
-    text.clear();
-    pushed
 }
 
 /// Ends a run whose whole script is done. `unvouched` says that a line told what was not so.

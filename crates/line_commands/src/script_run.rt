@@ -1,4 +1,4 @@
-ghost use Rattle.std.specs.Prelude.{◌≡◌, ◌<◌, ◌≤◌, ◌+◌, ◌++◌, IfErr, OnOk, false, is_some};
+ghost use Rattle.std.specs.Prelude.{◌≡◌, ◌<◌, ◌≤◌, ◌+◌, IfErr, OnOk, false, is_some};
 ghost use Rattle.line_lanes.specs.Lanes.{lines_of, no_lanes, unvouched_of};
 ghost use Rattle.line_script.specs.Ranges.{IsLaneWithin};
 ghost use Rattle.line_commands.specs.Reader.{DoesAsked, DoesLine, IsNumbered, RefusesAs, Sums};

@@ -14,6 +14,7 @@ use Rattle.line_lanes.specs.Lanes.{Lanes, lines_of}
 use Rattle.line_lanes.specs.Parts.{IsShort, LanePoint}
 use Rattle.line_lanes.specs.Views.{lanes_text}
 use Rattle.report_lines.specs.Proper.{ArePointsProper, IsProperOn}
+use Rattle.report_lines.proofs.Lines.{line_read}
 use Rattle.report_lines.specs.Lines.{ReportLine, line_of, number_in, lines_in}
 use Rattle.report_ledger.proofs.Inner.{inner_happening}
 use Rattle.report_ledger.proofs.Words.{cut_solid}

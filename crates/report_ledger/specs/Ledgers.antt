@@ -12,7 +12,7 @@ use Rattle.line_lanes.specs.Parts.{IsLaneRun, LanePoint, all_points, state_behin
 use Rattle.line_lanes.specs.Views.{lanes_text, tells_lie_on}
 use Rattle.report_ledger.specs.Deeds.{lane_deeds_in_report}
 use Rattle.report_lines.specs.Proper.{ArePointsProper}
-use Rattle.report_lines.specs.Lines.{lines_in}
+use Rattle.report_lines.specs.Lines.{AreUnnumbered, lines_in}
 
 -- the points of a run before the first line that told what was not so, on whichever lane
 abbrev pub honest_on : List LanePoint → List LanePoint

@@ -6,6 +6,7 @@ use Rattle.standings.specs.declared.deed.Deed.TheVariants.{Inserts, Removes}
 use Rattle.line_check.specs.declared.kind.Kind.{Kind}
 use Rattle.line_check.specs.declared.kind.Kind.TheVariants as kinds
 use Rattle.line_check.specs.LogLine.{entry_deed, exit_deed, id_of, replaced}
+use Rattle.report_lines.specs.Lines.{ReportLine}
 use Rattle.line_check.specs.Words.{cut_at_space, first_word}
 
 -- ---- what is vouched for

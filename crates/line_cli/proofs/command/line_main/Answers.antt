@@ -5,7 +5,7 @@ use Rattle.line_commands.proofs.FitScript.{scripts_are_fit}
 use Rattle.line_commands.proofs.Fronts.{has_one_report}
 use Rattle.line_cli.proofs.LedgerTold.{fronts_tell, reports_stand, reports_start, reports_tell}
 use Rattle.line_cli.proofs.MadeOnce.{has_one_make_text}
-use Rattle.line_commands.proofs.ReadFronts.{has_one_read_text}
+use Rattle.stream_text.proofs.ReadFronts.{has_one_read_text}
 use Rattle.line_cli.proofs.Spared.{spares}
 use Rattle.line_cli.proofs.command.line_main.Goals as goal
 

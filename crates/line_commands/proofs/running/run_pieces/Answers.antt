@@ -1,7 +1,8 @@
 use Rattle.std.proofs.Common.{◌≡◌, ◌≤◌, length, take, refl, arith}
 use Rattle.std.proofs.lemmas.List.{length-take-le}
 use Rattle.line_commands.proofs.LinesLemmas.{HasNoEnd-nil}
-use Rattle.line_commands.proofs.Going.{goes-first, goes-piece, goes-pushed, runs-part, runs-read_fault, runs-refused, runs-end_refused, runs-whole, causes-refused, causes-whole, causes-write_fault, causes-read_fault}
+use Rattle.line_commands.proofs.Going.{goes-first, goes-piece, goes-pushed, runs-part, runs-read_fault, runs-refused, runs-end_refused, runs-whole, causes-refused, causes-whole}
+use Rattle.line_status.proofs.Causes.{causes-write_fault, causes-read_fault}
 use Rattle.line_commands.proofs.running.run_pieces.Goals as goal
 
 pub loop-count-init : goal.loop-count-init

@@ -1,8 +1,8 @@
 use Rattle.std.proofs.Common.{◌≡◌, ◌≤◌, ◌<◌, ◌+◌, ◌-◌, length, take, ap, ◌∙◌, arith, false, true}
 use Rattle.std.proofs.lemmas.List.{length-take-le}
-use Rattle.line_commands.proofs.Going.{causes-write_fault, causes-read_fault}
-use Rattle.line_commands.proofs.ReadSteps.{nothing-over, reads-first, reads-piece, reads-pushed, reads-memory, reads-write_fault, reads-read_fault, reads-end, reads-large, causes-ended}
-use Rattle.line_commands.proofs.reading.read_pieces.Goals as goal
+use Rattle.line_status.proofs.Causes.{causes-write_fault, causes-read_fault}
+use Rattle.stream_text.proofs.ReadSteps.{nothing-over, reads-first, reads-piece, reads-pushed, reads-memory, reads-write_fault, reads-read_fault, reads-end, reads-large, causes-ended}
+use Rattle.stream_text.proofs.reading.read_pieces.Goals as goal
 
 pub loop-count-init : goal.loop-count-init
 loop-count-init g c =

@@ -1,8 +1,8 @@
 use Rattle.std.specs.Prelude.{◌≡◌, ◌+◌, ◌≤◌, ◌++◌, ℕ, Bool, List, [], Some, None, MatchBool, length}
 use Rattle.hermes_stream.specs.Frames.{frames_of, behind}
-use Rattle.line_commands.specs.ReadText.{IsFrameLine, AreFrameLines}
-use Rattle.line_commands.specs.declared.stream_reader.Taken.{Taken}
-use Rattle.line_commands.specs.declared.stream_reader.Progress.{Progress}
+use Rattle.stream_text.specs.ReadText.{IsFrameLine, AreFrameLines}
+use Rattle.stream_text.specs.declared.stream_reader.Taken.{Taken}
+use Rattle.stream_text.specs.declared.stream_reader.Progress.{Progress}
 
 -- a line was written for a frame
 pub record WritesLine (number : ℕ) (frame before now : List ℕ) : Type 0 where

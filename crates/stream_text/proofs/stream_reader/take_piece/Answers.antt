@@ -1,8 +1,8 @@
 use Rattle.std.proofs.Common.{◌≡◌, ◌+◌, ◌-◌, ◌++◌, length, take, drop, sym, ap, subst, ◌∙◌, arith}
 use Rattle.std.proofs.lemmas.List.{take_rest, length-drop, length-take, length-append, take_all, take-append-drop}
-use Rattle.line_commands.specs.StreamReader.{TakesFrames, IsRest, IsTooLong}
-use Rattle.line_commands.proofs.ReadFrames.{takes-fed_at, takes-frame, takes-more, takes-too_long, rest-left}
-use Rattle.line_commands.proofs.stream_reader.take_piece.Goals as goal
+use Rattle.stream_text.specs.StreamReader.{TakesFrames, IsRest, IsTooLong}
+use Rattle.stream_text.proofs.ReadFrames.{takes-fed_at, takes-frame, takes-more, takes-too_long, rest-left}
+use Rattle.stream_text.proofs.stream_reader.take_piece.Goals as goal
 
 pub loop-frame-preserved : goal.loop-frame-preserved
 loop-frame-preserved c =

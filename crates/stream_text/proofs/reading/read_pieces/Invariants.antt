@@ -1,7 +1,7 @@
 use Rattle.std.proofs.Common.{◌<◌, ◌≤◌, ◌+◌, ◌-◌, length}
-use Rattle.line_commands.specs.Stream.{ReadsOn}
-use Rattle.line_commands.specs.StreamReader.{IsOver}
-use Rattle.line_commands.proofs.reading.read_pieces.Given as goal
+use Rattle.stream_text.specs.Stream.{ReadsOn}
+use Rattle.stream_text.specs.StreamReader.{IsOver}
+use Rattle.stream_text.proofs.reading.read_pieces.Given as goal
 
 abbrev pub invariant-loop-count : goal.invariant-loop-count
 invariant-loop-count g l = record {

@@ -9,15 +9,15 @@ use Rattle.line_outside.specs.declared.pushing.Pushed.TheVariants as pushes
 use Rattle.line_outside.proofs.Growing.{grows_none, grows_more, rose_after}
 use Rattle.hermes_stream.specs.Frames.{Frames, frames_of, behind}
 use Rattle.hermes_stream.specs.Frames as parts
-use Rattle.line_commands.specs.ReadText.{AreFrameLines, IsReadText, most_read, ending_text, read_ending}
-use Rattle.line_commands.specs.StreamReader.{TakesSome, IsOver, IsRest}
-use Rattle.line_commands.specs.Command.{HasCauses}
-use Rattle.line_commands.specs.Ending.{HasPushed}
-use Rattle.line_commands.specs.Stream.{WritesFront, ReadsStream, Reads, IsReading, ReadsOn, EndsRead}
-use Rattle.line_commands.specs.declared.stream_reader.Progress.{Progress}
-use Rattle.line_commands.specs.declared.status.Status.{Status}
-use Rattle.line_commands.specs.declared.status.Status.TheVariants as statuses
-use Rattle.line_commands.proofs.ReadFronts.{AreFirstLines, first_lines_begin, lines-join, part_begins, whole_begins}
+use Rattle.stream_text.specs.ReadText.{AreFrameLines, IsReadText, most_read, ending_text, read_ending}
+use Rattle.stream_text.specs.StreamReader.{TakesSome, IsOver, IsRest}
+use Rattle.line_status.specs.Status.{HasCauses}
+use Rattle.line_status.specs.Pieces.{HasPushed}
+use Rattle.stream_text.specs.Stream.{WritesFront, ReadsStream, Reads, IsReading, ReadsOn, EndsRead}
+use Rattle.stream_text.specs.declared.stream_reader.Progress.{Progress}
+use Rattle.line_status.specs.declared.status.Status.{Status}
+use Rattle.line_status.specs.declared.status.Status.TheVariants as statuses
+use Rattle.stream_text.proofs.ReadFronts.{AreFirstLines, first_lines_begin, lines-join, part_begins, whole_begins}
 
 -- at first nothing was pushed and nothing waits
 pub reads-first : (left old : Option (List ℕ)) (far : Progress) → far.taken ≡ 0 → far.done ≡ 0 → ReadsOn left left old old [] far []

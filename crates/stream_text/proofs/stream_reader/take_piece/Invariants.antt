@@ -1,6 +1,6 @@
 use Rattle.std.proofs.Common.{◌≤◌, ◌+◌, ◌-◌, ◌*◌, take, length}
-use Rattle.line_commands.specs.StreamReader.{TakesFrames}
-use Rattle.line_commands.proofs.stream_reader.take_piece.Given as goal
+use Rattle.stream_text.specs.StreamReader.{TakesFrames}
+use Rattle.stream_text.proofs.stream_reader.take_piece.Given as goal
 
 -- the frames of the piece's front were taken off
 abbrev pub invariant-loop-frame : goal.invariant-loop-frame

@@ -3,10 +3,8 @@
 ghost use Rattle.std.specs.Prelude.{◌≡◌, ◌+◌, ◌≤◌, ◌<◌, ◌^◌, ◌++◌, IfOk, OnOk, codes, decimal, length, false};
 ghost use Rattle.canonical_frames.specs.Frame.{IsCanonical};
 ghost use Rattle.hermes_horizontal.specs.Texts.{message_error_text};
-ghost use Rattle.line_commands.specs.Texts.{entry};
-ghost use Rattle.line_commands.specs.ReadText.{message_text};
-ghost use Rattle.line_commands.specs.ReadText.{ending_text, end_text};
-ghost use Rattle.line_commands.specs.StreamReader.{WritesLine, TakesPiece, TakesSome, IsOver};
+ghost use Rattle.stream_text.specs.ReadText.{entry, message_text, ending_text, end_text};
+ghost use Rattle.stream_text.specs.StreamReader.{WritesLine, TakesPiece, TakesSome, IsOver};
 
 use canonical_frames::is_canonical;
 use hermes_horizontal::{Horizontal, Message, MessageError, read_horizontal, write_horizontal};

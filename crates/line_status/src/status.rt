@@ -1,5 +1,5 @@
 ghost use Rattle.std.specs.Prelude.{◌≡◌};
-ghost use Rattle.line_commands.specs.Command.{exit_number};
+ghost use Rattle.line_status.specs.Status.{exit_number};
 
 use line_check::CheckWhy;
 use line_script::LineWhy;

@@ -3,11 +3,11 @@ use Rattle.std.specs.Prelude.{◌≡◌, ◌≤◌, ◌<◌, ◌++◌, ℕ, Bool
 use Rattle.line_outside.specs.Faults.{Rose}
 use Rattle.line_outside.specs.Sink.{Grows, GrowsInPart}
 use Rattle.hermes_stream.specs.Frames.{frames_of, behind}
-use Rattle.line_commands.specs.ReadText.{AreFrameLines, IsReadText, BeginsReadText, most_read, ending_text}
-use Rattle.line_commands.specs.declared.stream_reader.Progress.{Progress}
-use Rattle.line_commands.specs.declared.status.Status.{Status}
-use Rattle.line_commands.specs.declared.status.Status.TheVariants as statuses
-use Rattle.line_commands.specs.declared.status.InputWhy.TheVariants as inputs
+use Rattle.stream_text.specs.ReadText.{AreFrameLines, IsReadText, BeginsReadText, most_read, ending_text}
+use Rattle.stream_text.specs.declared.stream_reader.Progress.{Progress}
+use Rattle.line_status.specs.declared.status.Status.{Status}
+use Rattle.line_status.specs.declared.status.Status.TheVariants as statuses
+use Rattle.line_status.specs.declared.status.InputWhy.TheVariants as inputs
 
 -- the whole read text was written, or a front of it
 pub record WritesReadText (stream : List ℕ) (old new : Option (List ℕ)) : Type 0 where
@@ -76,3 +76,15 @@ EndsRead far waiting large old new before now text statuses.WriteFault =
     × GrowsInPart old new (text ++ ending_text far.done far.too_long waiting large)
 EndsRead far waiting large old new before now text statuses.Memory = (before ≤ now) × (new ≡ old)
 EndsRead far waiting large old new before now text _ = ⊥
+
+-- whatever the source tells, what `read` may answer: a stream is refused for its size alone
+abbrev pub IsReadStatus : Status → Type 0
+IsReadStatus statuses.Done = Unit {0}
+IsReadStatus statuses.Usage = ⊥
+IsReadStatus (statuses.ScriptRefused line (inputs.Line why)) = ⊥
+IsReadStatus (statuses.ScriptRefused line inputs.TooLarge) = line ≡ 0
+IsReadStatus statuses.ReadFault = Unit {0}
+IsReadStatus statuses.WriteFault = Unit {0}
+IsReadStatus statuses.Memory = Unit {0}
+IsReadStatus statuses.Unvouched = ⊥
+IsReadStatus (statuses.Refuted line why) = ⊥

@@ -7,9 +7,8 @@ use Rattle.hermes_horizontal.specs.declared.message.Horizontal.{Horizontal}
 use Rattle.hermes_horizontal.specs.declared.message.Horizontal.TheVariants as bodies
 use Rattle.hermes_horizontal.specs.declared.message.Message.{Message}
 use Rattle.canonical_frames.specs.Frame.{IsCanonical}
-use Rattle.line_commands.specs.Texts.{entry}
-use Rattle.line_commands.specs.ReadText.{body_text}
-use Rattle.line_commands.specs.StreamReader.{WritesLine}
+use Rattle.stream_text.specs.ReadText.{entry, body_text}
+use Rattle.stream_text.specs.StreamReader.{WritesLine}
 
 written_of : (message : Message) (body : Horizontal) → kind_of body ≢ kinds.Other → body_text message body ≡ canonical message
 written_of message (bodies.CheckAlive ping id) named = refl

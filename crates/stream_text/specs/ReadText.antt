@@ -8,11 +8,14 @@ use Rattle.hermes_horizontal.specs.declared.fault.Fault.{Fault}
 use Rattle.hermes_horizontal.specs.declared.message.Horizontal.{Horizontal}
 use Rattle.hermes_horizontal.specs.declared.message.Horizontal.TheVariants as bodies
 use Rattle.hermes_horizontal.specs.declared.message.Message.{Message}
-use Rattle.line_commands.specs.Texts.{entry}
 
 -- the most bytes that are read of a stream
 abbrev pub most_read : ℕ
 most_read = 1073741824
+
+-- one line of what is read of a stream
+abbrev pub entry : ℕ → List ℕ → List ℕ
+entry number text = decimal number ++ codes " " ++ text ++ codes "\n"
 
 -- what is written of a message: its canonical spelling, or `other` and its name
 abbrev pub body_text : Message → Horizontal → List ℕ

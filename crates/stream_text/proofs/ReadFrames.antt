@@ -4,8 +4,8 @@ use Rattle.std.proofs.Math.Seq.{take-add}
 use Rattle.std.proofs.lemmas.List.{take_rest}
 use Rattle.hermes_stream.specs.Frames.{frames_of, left_of, behind}
 use Rattle.hermes_stream.specs.Cutter.{GivesFrame, WantsMore}
-use Rattle.line_commands.specs.ReadText.{IsFrameLine, AreFrameLines}
-use Rattle.line_commands.specs.StreamReader.{WritesLine, TakesFrames, IsRest, IsTooLong}
+use Rattle.stream_text.specs.ReadText.{IsFrameLine, AreFrameLines}
+use Rattle.stream_text.specs.StreamReader.{WritesLine, TakesFrames, IsRest, IsTooLong}
 
 -- one line more
 pub lines-push : (number : ℕ) (frames : List (List ℕ)) (lines frame line : List ℕ) → AreFrameLines number frames lines → IsFrameLine (number + length frames) frame line → AreFrameLines number (frames ++ frame ∷ []) (lines ++ line)

@@ -1,12 +1,11 @@
-ghost use Rattle.std.specs.Prelude.{◌≡◌, ◌≤◌, ◌<◌, ◌^◌, ◌++◌, [], length};
-ghost use Rattle.line_commands.specs.Command.{HasCauses, IsReadStatus};
-ghost use Rattle.line_commands.specs.Stream.{Reads, EndsRead};
+ghost use Rattle.std.specs.Prelude.{◌≡◌, ◌<◌, ◌^◌, [], length};
+ghost use Rattle.line_status.specs.Status.{HasCauses};
+ghost use Rattle.stream_text.specs.Stream.{EndsRead, IsReadStatus, Reads};
 
-use crate::running::{PIECE_BYTES, front, push_full};
-use crate::status::{InputWhy, Status};
 use crate::stream_reader::{Progress, take_some, write_ending};
 use hermes_stream::Cutter;
 use line_outside::{Pull, Pushed, Sink, Source, push_all};
+use line_status::{InputWhy, PIECE_BYTES, Status, front, push_full};
 use std::alloc::Global;
 
 /// How many bytes of a stream are read at most.
