@@ -18,10 +18,12 @@ use Rattle.line_step.proofs.Keeps.{more_together, not_full}
 use Rattle.line_lanes.specs.Lanes.{Lanes}
 use Rattle.line_lanes.specs.Shown.{standings_on}
 use Rattle.line_lanes.specs.Steps.{Becomes, RequestDoes, more_on, told_once}
-use Rattle.line_engine.specs.Indexed.{indexed, marks_listed}
-use Rattle.line_engine.specs.Sharing.{AreNumbered, grown}
+use Rattle.line_marks.specs.Indexed.{indexed, marks_listed}
+use Rattle.line_machines.specs.Sharing.{AreNumbered}
+use Rattle.line_engine.specs.Sharing.{grown}
 use Rattle.line_engine.specs.Tracks.{AreKept, HasRoom, IsLike, IsOwn, TellsDone, lanes_of, made_told, states_of}
-use Rattle.line_engine.specs.Seats.{both, own_seat, seat_listed}
+use Rattle.line_marks.specs.Seats.{both, own_seat}
+use Rattle.line_engine.specs.Seats.{seat_listed}
 use Rattle.line_engine.specs.declared.track.Track.{Track}
 use Rattle.line_engine.proofs.OnLane.{refused, unless_done, unless_not}
 use Rattle.line_engine.proofs.Standings.{seats_listed, standings_among}

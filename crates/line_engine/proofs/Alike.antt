@@ -12,8 +12,8 @@ use Rattle.standings.specs.Marks.{Owned}
 use Rattle.line_step.specs.State.{LineState, machine_in, owned, owned_by}
 use Rattle.line_step.specs.Together.{IsLineTogether, is_linked}
 use Rattle.line_lanes.specs.Lanes.{beside, beside_nodes}
-use Rattle.line_engine.specs.Indexed.{Entries, IsIndexOf}
-use Rattle.line_engine.specs.Sharing.{AreNumbered}
+use Rattle.line_marks.specs.Indexed.{Entries, IsIndexOf}
+use Rattle.line_machines.specs.Sharing.{AreNumbered}
 use Rattle.line_engine.specs.Tracks.{AreKept, AreLike, IsLike, IsOwn, states_of, with_behind}
 use Rattle.line_engine.specs.declared.track.Track.{Track}
 use Rattle.line_engine.proofs.Besides.{beside_track, tracks_behind}

@@ -1,30 +1,28 @@
 -- What a step on one lane leaves of the other lanes of its machines.
-use Rattle.std.proofs.Common.{◌≡◌, ◌∙◌, ◌-◌, ◌<◌, ◌≤◌, ◌==◌, ℕ, Bool, true, false, zero, suc, List, [], ◌∷◌, ap, arith, length, map, refl, subst, sym, eq-eqb}
+use Rattle.std.proofs.Common.{◌≡◌, ◌∙◌, ◌-◌, ◌<◌, ◌==◌, ℕ, Bool, true, false, zero, suc, List, [], ◌∷◌, ap, arith, length, map, refl, subst, sym, eq-eqb}
 use Rattle.std.proofs.Math.Numerals.{sub-one}
-use Rattle.std.specs.Prelude.{Option, None, Some, if◌then◌else◌, option_map, slice_get, slice_index_or, slice_set}
+use Rattle.std.specs.Prelude.{Option, None, Some, if◌then◌else◌, option_map, slice_get, slice_set}
 use Rattle.std.specs.List.{AllByRecursion}
 use Rattle.node_core.specs.Node.{NodeState}
 use Rattle.node_core.specs.Shared.{SharedParts, shared_of, with_shared}
 use Rattle.node_core.specs.declared.input.Input.{Input}
 use Rattle.node_core.specs.declared.input.Input.TheVariants as inputs
 use Rattle.line_script.specs.declared.line.ScriptLine.{ScriptLine}
-use Rattle.line_script.specs.declared.line.ScriptLine.TheVariants as lines
 use Rattle.line_report.specs.declared.happening.Happening.{Happening}
 use Rattle.line_step.specs.Lines.{Connects, LineDoes, arrived, connecting}
 use Rattle.line_step.specs.Requests.{Request, request_of}
-use Rattle.line_step.specs.Requests as requests
 use Rattle.line_step.specs.State.{LineState}
 use Rattle.line_step.specs.Steps.{MachineSteps}
 use Rattle.line_step.proofs.Ascending.{choose_false, choose_true}
-use Rattle.line_step.proofs.Numbers.{machine_at_number}
 use Rattle.line_step.proofs.Turns.{LineTurns, line_turns}
 use Rattle.line_step.proofs.Turns as turns
 use Rattle.line_lanes.specs.Lanes.{beside, beside_nodes, tracks_with}
-use Rattle.line_engine.specs.Given.{is_of_lane}
-use Rattle.line_engine.specs.Stepped.{first_stepped, last_stepped}
-use Rattle.line_engine.proofs.Stepped.{place_is}
-use Rattle.line_engine.proofs.Restored.{first_asked, first_is, last_asked, last_is, stepped}
-use Rattle.line_engine.specs.Sharing.{followed, followed_with, following, shared_in, shared_with, sharing, sharing_at, sharing_track_if, unvouched_track}
+use Rattle.line_machines.specs.Given.{is_of_lane}
+use Rattle.line_machines.proofs.Numbering.{is_adding, not_adding}
+use Rattle.line_marks.specs.Stepped.{first_stepped, last_stepped}
+use Rattle.line_marks.proofs.Restored.{first_asked, first_is, last_asked, last_is, stepped}
+use Rattle.line_machines.specs.Sharing.{shared_in, sharing, sharing_at}
+use Rattle.line_engine.specs.Sharing.{followed, followed_with, following, shared_with, sharing_track_if, unvouched_track}
 use Rattle.line_engine.specs.Tracks.{IsFollowing, IsReady, SharesOf, states_of, with_behind}
 use Rattle.line_engine.specs.declared.sharing.Shares.{Shares}
 use Rattle.line_engine.specs.declared.track.Track.{Track}
@@ -178,23 +176,12 @@ connect_touched : (number machine : ℕ) (before after : LineState) (told : List
 connect_touched number zero before after told t = let none = t.first.there in absurd (cc)
 connect_touched number (suc place) before after told t = two_touched number place (suc place - 1) inputs.Connect _ before (connecting (suc place) before) t.between after t.earlier t.later (sub-one (suc place)) refl t.first t.second
 
--- a request is not one for a machine more
-abbrev pub is_adding : Request → Bool
-is_adding (requests.adds lane is_bridge capacity used) = true
-is_adding request = false
-
 turn_touched : (number : ℕ) (request : Request) (before after : LineState) (told : List Happening) → is_adding request ≡ false → LineTurns number before after told request → Touches (first_asked request) (last_asked request) before after
 turn_touched number request before after told not (turns.stays _ same none) = touches_none same
 turn_touched number request before after told not (turns.adds lane is_bridge capacity used may b) = absurd (cc)
 turn_touched number request before after told not (turns.steps machine input given may did) = one_touched number machine input before before after told refl did
 turn_touched number request before after told not (turns.connects machine may did) = connect_touched number machine before after told did
 turn_touched number request before after told not (turns.flows machine side count may did) = one_touched number machine _ before (arrived machine side count before) after told refl did.steps
-
-pub not_adding : (line : ScriptLine) → is_of_lane line ≡ true → is_adding (request_of line) ≡ false
-not_adding lines.Blank is = refl
-not_adding (lines.Machine capacity used) is = sym is
-not_adding (lines.Bridge capacity used) is = sym is
-not_adding _ is = refl
 
 pub line_touched : (number : ℕ) (line : ScriptLine) (before after : LineState) (told : List Happening) → is_of_lane line ≡ true → LineDoes number (request_of line) before after told → Touches (first_stepped line) (last_stepped line) before after
 line_touched number line before after told own does =
@@ -311,15 +298,7 @@ pub tracks_follow : (first last place : ℕ) (before next : LineState) (own : Tr
     → following first last next (with_behind place (record own { state = next }) tracks) ≡ tracks_behind place next tracks
 tracks_follow first last place before next own tracks touched alike there = all_followed first last place before next own tracks touched alike there
 
--- ---- the code's word for one machine
-
-pub share_made : (machine : ℕ) (shared : SharedParts) (s : LineState) (one new : NodeState) → 1 ≤ machine → machine ≤ length s.machines → one ≡ slice_index_or s.machines (machine - 1) one → new ≡ with_shared shared one
-    → record s { machines = slice_set s.machines (machine - 1) new } ≡ sharing machine shared s
-share_made machine shared s one new least most at new_is =
-    let found = machine_at_number machine s least most in
-    let same : found.0 ≡ one = place_is machine s found.0 one found.1 at in
-    ap (λ (n : NodeState). record s { machines = slice_set s.machines (machine - 1) n }) new_is
-    ∙ sym (ap (λ (f : Option NodeState). sharing_at machine shared f s) (found.1 ∙ ap (λ (n : NodeState). Some n) same))
+-- ---- the code's words for it
 
 pub none_shared : (machine : ℕ) (shared : Option SharedParts) (tracks : List Track) → shared ≡ None → tracks ≡ map (sharing_track_if machine shared) tracks
 none_shared machine shared tracks is = all_same tracks ∙ ap (λ (s : Option SharedParts). map (sharing_track_if machine s) tracks) (sym is)

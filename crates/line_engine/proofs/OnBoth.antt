@@ -13,17 +13,18 @@ use Rattle.line_step.specs.Named.{ids_named}
 use Rattle.line_step.specs.Shown.{ascending}
 use Rattle.line_step.specs.State.{LineState, owned}
 use Rattle.line_step.specs.Together.{IsLineTogether}
-use Rattle.line_engine.specs.Indexed.{Entries, Follows, IsIndexOf, entry_at, indexed, marks_in_entry, marks_listed, patched}
-use Rattle.line_engine.specs.Seats.{both, own_seat, seat_listed, seat_told}
-use Rattle.line_engine.specs.Sharing.{AreNumbered}
+use Rattle.line_marks.specs.Indexed.{Entries, Follows, IsIndexOf, entry_at, indexed, marks_in_entry, marks_listed, patched}
+use Rattle.line_marks.specs.Seats.{both, own_seat}
+use Rattle.line_engine.specs.Seats.{seat_listed, seat_told}
+use Rattle.line_machines.specs.Sharing.{AreNumbered}
 use Rattle.line_engine.specs.Tracks.{FollowsBoth, FollowsOne, IsReady, track_in, with_behind}
-use Rattle.line_engine.specs.declared.index.Moved.{Moved}
-use Rattle.line_engine.specs.declared.seat.Seat.{Seat}
+use Rattle.line_marks.specs.declared.index.Moved.{Moved}
+use Rattle.line_marks.specs.declared.seat.Seat.{Seat}
 use Rattle.line_engine.specs.declared.track.Track.{Track}
-use Rattle.line_engine.proofs.Following.{IsFollowing, at_end, begins_at, ends_index, goes_on_at}
+use Rattle.line_marks.proofs.Following.{IsFollowing, at_end, begins_at, ends_index, goes_on_at}
 use Rattle.line_engine.proofs.OnLane.{behind_there}
 use Rattle.line_engine.proofs.OnTwo.{get_behind}
-use Rattle.line_engine.proofs.Rising.{not_again}
+use Rattle.line_marks.proofs.Rising.{not_again}
 use Rattle.line_step.proofs.Ascending.{choose_false, choose_true}
 
 -- ---- two places of a list

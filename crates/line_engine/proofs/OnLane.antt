@@ -26,20 +26,22 @@ use Rattle.line_lanes.specs.Lanes.{Lanes, beside, empty_track, lines_of, track, 
 use Rattle.line_lanes.specs.Reasons.{may_on}
 use Rattle.line_lanes.specs.Shown.{standings_on}
 use Rattle.line_lanes.specs.Steps.{OnTrack, RequestDoes, Unless, told_once}
-use Rattle.line_engine.specs.Given.{is_of_lane}
-use Rattle.line_engine.specs.Indexed.{Entries, Follows, IsIndexOf, marks_in_entry, marks_listed}
-use Rattle.line_engine.specs.Seats.{both, own_seat, seat_beside, seat_listed, seat_told}
+use Rattle.line_machines.specs.Given.{is_of_lane}
+use Rattle.line_marks.specs.Indexed.{Entries, Follows, IsIndexOf, marks_in_entry, marks_listed}
+use Rattle.line_marks.specs.Seats.{both, own_seat}
+use Rattle.line_engine.specs.Seats.{seat_beside, seat_listed, seat_told}
 use Rattle.line_engine.specs.Sharing.{following}
-use Rattle.line_engine.specs.Stepped.{first_stepped, last_stepped, told_each}
+use Rattle.line_marks.specs.Stepped.{first_stepped, last_stepped, told_each}
 use Rattle.line_engine.specs.Tracks.{AreKept, FollowsDone, FollowsLane, IsFollowing, IsLike, IsOwn, StepsOn, TellsDone, lane_told, lanes_of, states_of, track_in, with_behind}
-use Rattle.line_engine.specs.declared.seat.Seat.{Seat}
-use Rattle.line_engine.specs.declared.seat.Seat.TheVariants.{Nowhere}
+use Rattle.line_marks.specs.declared.seat.Seat.{Seat}
+use Rattle.line_marks.specs.declared.seat.Seat.TheVariants.{Nowhere}
 use Rattle.line_engine.specs.declared.track.Track.{Track}
 use Rattle.line_engine.proofs.Alike.{Stepped, kept_now, likes_at, map_wide, now_is, state_at, tracks_now}
-use Rattle.line_engine.proofs.Besides.{AreAlike, Touches, beside_track, line_touched, not_adding, set_length, states_behind, touches_none, touches_one, touches_two, tracks_behind, tracks_follow}
-use Rattle.line_engine.proofs.Followed.{follows}
-use Rattle.line_engine.proofs.Following.{listed_is}
-use Rattle.line_engine.proofs.Numbering.{line_numbered}
+use Rattle.line_machines.proofs.Numbering.{not_adding}
+use Rattle.line_engine.proofs.Besides.{AreAlike, Touches, beside_track, line_touched, set_length, states_behind, touches_none, touches_one, touches_two, tracks_behind, tracks_follow}
+use Rattle.line_marks.proofs.Followed.{follows}
+use Rattle.line_marks.proofs.Following.{listed_is}
+use Rattle.line_machines.proofs.Numbering.{line_numbered}
 use Rattle.line_engine.proofs.Seating.{beside_at, seats_apart}
 use Rattle.line_engine.proofs.Standings.{flat_same, listed_own, seats_listed, standings_among}
 

@@ -35,21 +35,23 @@ use Rattle.line_lanes.specs.Shown.{standings_on}
 use Rattle.line_lanes.specs.Steps.{LanesDo, Shifts, told_once}
 use Rattle.line_lanes.proofs.Moving.{gets_does, gives_does, may_shift_is, step_like}
 use Rattle.line_lanes.proofs.Sharing.{AreShared}
-use Rattle.line_engine.specs.Given.{GivesBoard, is_bridge_at, is_bridge_in}
-use Rattle.line_engine.specs.Indexed.{Entries, Follows, IsIndexOf, marks_in_entry, marks_listed}
-use Rattle.line_engine.specs.Seats.{both, own_seat, seat_beside, seat_from, seat_listed, seat_told}
-use Rattle.line_engine.specs.Sharing.{AreNumbered, following}
+use Rattle.line_machines.specs.Given.{GivesBoard, is_bridge_at, is_bridge_in}
+use Rattle.line_marks.specs.Indexed.{Entries, Follows, IsIndexOf, marks_in_entry, marks_listed}
+use Rattle.line_marks.specs.Seats.{both, own_seat}
+use Rattle.line_engine.specs.Seats.{seat_beside, seat_from, seat_listed, seat_told}
+use Rattle.line_machines.specs.Sharing.{AreNumbered}
+use Rattle.line_engine.specs.Sharing.{following}
 use Rattle.line_engine.specs.Tracks.{AreKept, FollowsBoth, GivesOn, IsFollowing, IsLike, IsOwn, IsReady, MayOn, TakesOn, TellsDone, lanes_of, states_of, track_in, with_behind, with_index, with_state}
-use Rattle.line_engine.specs.declared.seat.Seat.{Seat}
+use Rattle.line_marks.specs.declared.seat.Seat.{Seat}
 use Rattle.line_engine.specs.declared.track.Track.{Track}
 use Rattle.line_engine.proofs.Alike.{Stepped, at_place, beside_numbered, beside_owned, beside_stands, kept_now, like_all, like_back, likes_at, likes_now, now_is, own_beside, shared_wide, state_at, tracks_now}
 use Rattle.line_engine.proofs.Besides.{Touches, beside_alike, beside_track, one_touched, states_behind, tracks_behind, tracks_follow}
-use Rattle.line_engine.proofs.Following.{listed_is}
+use Rattle.line_marks.proofs.Following.{listed_is}
 use Rattle.line_engine.proofs.Lanes.{has_there}
-use Rattle.line_engine.proofs.Numbering.{machine_numbered}
+use Rattle.line_machines.proofs.Numbering.{machine_numbered}
 use Rattle.line_engine.proofs.OnLane.{alikes, behind_seats, behind_there, first_lines, follows_there, own_at, refused, states_now, touched_wide, track_is, unless_done, unless_not}
-use Rattle.line_engine.proofs.Patched.{patched_is}
-use Rattle.line_engine.proofs.Restored.{one_step}
+use Rattle.line_marks.proofs.Patched.{patched_is}
+use Rattle.line_marks.proofs.Restored.{one_step}
 use Rattle.line_engine.proofs.Seating.{beside_at, seats_apart}
 use Rattle.line_engine.proofs.Standings.{flat_same, listed_own, seats_listed, standings_among}
 

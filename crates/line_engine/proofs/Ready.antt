@@ -14,14 +14,14 @@ use Rattle.line_lanes.specs.Lanes.{Lanes, has_lane}
 use Rattle.line_lanes.specs.Reasons.{and_may, first_track, is_named, may_on}
 use Rattle.node_core.specs.declared.input.No.TheVariants as nos
 use Rattle.line_report.specs.declared.happening.Reason.TheVariants as reasons
-use Rattle.line_engine.specs.Given.{is_of_lane}
-use Rattle.line_engine.specs.Sharing.{AreNumbered}
+use Rattle.line_machines.specs.Given.{is_of_lane}
+use Rattle.line_machines.specs.Sharing.{AreNumbered}
 use Rattle.line_engine.specs.Tracks.{AreKept, IsFollowing, IsOwn, IsReady, StepsOn, lanes_of, track_in}
-use Rattle.line_engine.specs.Stepped.{first_stepped, last_stepped}
+use Rattle.line_marks.specs.Stepped.{first_stepped, last_stepped}
 use Rattle.line_engine.specs.declared.track.Track.{Track}
-use Rattle.line_engine.proofs.Besides.{not_adding}
+use Rattle.line_machines.proofs.Numbering.{not_adding}
 use Rattle.line_engine.proofs.Lanes.{has_there, some_of}
-use Rattle.line_engine.proofs.Numbering.{line_numbered}
+use Rattle.line_machines.proofs.Numbering.{line_numbered}
 use Rattle.line_engine.proofs.OnLane.{own_at, second_there}
 use Rattle.line_engine.proofs.Telling.{with_there}
 

@@ -12,11 +12,12 @@ use Rattle.line_report.specs.declared.happening.Happening.TheVariants as happeni
 use Rattle.line_step.specs.State.{LineState, marks_in}
 use Rattle.line_step.proofs.Ascending.{choose_false, choose_true}
 use Rattle.line_lanes.specs.Shown.{LaneMarks, LanePlace, is_same_place, marked_from, marks_told, place_told, placed, standing_happens, standing_on, with_marks}
-use Rattle.line_engine.specs.declared.seat.Seat.{Seat}
-use Rattle.line_engine.specs.declared.seat.Seat.TheVariants.{Nowhere, Unclear, At}
+use Rattle.line_marks.specs.declared.seat.Seat.{Seat}
+use Rattle.line_marks.specs.declared.seat.Seat.TheVariants.{Nowhere, Unclear, At}
 use Rattle.line_engine.specs.declared.track.Track.{Track}
-use Rattle.line_engine.specs.Indexed.{marks_listed}
-use Rattle.line_engine.specs.Seats.{both, is_same_seat, own_seat, place_in, seat_at, seat_beside, seat_from, seat_listed, seat_told}
+use Rattle.line_marks.specs.Indexed.{marks_listed}
+use Rattle.line_marks.specs.Seats.{both, own_seat, seat_at}
+use Rattle.line_engine.specs.Seats.{is_same_seat, place_in, seat_beside, seat_from, seat_listed, seat_told}
 use Rattle.line_engine.specs.Tracks.{track_in, with_behind}
 
 -- ---- seats together

@@ -10,13 +10,14 @@ use Rattle.line_step.specs.State.{LineState, marks_in, owned}
 use Rattle.line_step.proofs.Ascending.{ascending_same}
 use Rattle.line_step.proofs.Unnamed.{apart_ids, or_false}
 use Rattle.line_lanes.specs.Shown.{marked_from, marked_on, marks_told, standings_on}
-use Rattle.line_engine.specs.Indexed.{marks_in_entry, marks_listed}
-use Rattle.line_engine.specs.Seats.{both, own_seat, seat_from, seat_listed, seat_told}
-use Rattle.line_engine.specs.declared.seat.Seat.{Seat}
-use Rattle.line_engine.specs.declared.seat.Seat.TheVariants.{Nowhere}
+use Rattle.line_marks.specs.Indexed.{marks_in_entry, marks_listed}
+use Rattle.line_marks.specs.Seats.{both, own_seat}
+use Rattle.line_engine.specs.Seats.{seat_from, seat_listed, seat_told}
+use Rattle.line_marks.specs.declared.seat.Seat.{Seat}
+use Rattle.line_marks.specs.declared.seat.Seat.TheVariants.{Nowhere}
 use Rattle.line_engine.specs.declared.track.Track.{Track}
 use Rattle.line_engine.specs.Tracks.{IsOwn, lanes_of, states_of}
-use Rattle.line_engine.proofs.Following.{listed_is}
+use Rattle.line_marks.proofs.Following.{listed_is}
 use Rattle.line_engine.proofs.Seating.{same_untold, seat_is, seat_of, told_is}
 
 -- ---- an id without a mark

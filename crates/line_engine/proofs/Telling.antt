@@ -9,17 +9,18 @@ use Rattle.line_report.specs.declared.happening.LaneHappening.{LaneHappening}
 use Rattle.line_step.specs.Named.{ids_named}
 use Rattle.line_step.specs.Shown.{ascending}
 use Rattle.line_step.specs.State.{owned}
-use Rattle.line_engine.specs.Indexed.{Entries, Follows, IsIndexOf, entry_at, indexed, marks_listed, patched}
-use Rattle.line_engine.specs.Seats.{both, moved_told, own_seat, seat_beside, seat_told}
-use Rattle.line_engine.specs.Stepped.{told_each}
+use Rattle.line_marks.specs.Indexed.{Entries, Follows, IsIndexOf, entry_at, indexed, marks_listed, patched}
+use Rattle.line_marks.specs.Seats.{both, own_seat}
+use Rattle.line_engine.specs.Seats.{moved_told, seat_beside, seat_told}
+use Rattle.line_marks.specs.Stepped.{told_each}
 use Rattle.line_engine.specs.Tracks.{FollowsDone, FollowsOne, FollowsTrack, IsReady, lane_told, track_in, with_behind, with_index}
-use Rattle.line_engine.specs.declared.index.Moved.{Moved}
-use Rattle.line_engine.specs.declared.seat.Seat.{Seat}
+use Rattle.line_marks.specs.declared.index.Moved.{Moved}
+use Rattle.line_marks.specs.declared.seat.Seat.{Seat}
 use Rattle.line_engine.specs.declared.track.Track.{Track}
 use Rattle.line_step.specs.Together.{IsLineTogether}
-use Rattle.line_engine.specs.Sharing.{AreNumbered}
+use Rattle.line_machines.specs.Sharing.{AreNumbered}
 use Rattle.line_engine.proofs.Lanes.{IsLater, later_set, later_there, own_ready, some_of}
-use Rattle.line_engine.proofs.Following.{IsFollowing, at_end, begins_at, ends, ends_index, goes_on_at}
+use Rattle.line_marks.proofs.Following.{IsFollowing, at_end, begins_at, ends, ends_index, goes_on_at}
 use Rattle.line_engine.proofs.Seating.{beside_same}
 
 -- so far the index of the lane is this one, and of whatever line it was before it has followed all

@@ -5,7 +5,8 @@ use Rattle.std.specs.Prelude.{Option, None, Some, if◌then◌else◌, slice_get
 use Rattle.node_core.specs.Shared.{SharedParts}
 use Rattle.line_step.specs.State.{LineState}
 use Rattle.line_step.proofs.Ascending.{choose_false}
-use Rattle.line_engine.specs.Sharing.{AreNumbered, ShareAlike, followed, shared_in}
+use Rattle.line_machines.specs.Sharing.{AreNumbered, shared_in}
+use Rattle.line_engine.specs.Sharing.{ShareAlike, followed}
 use Rattle.line_engine.specs.Tracks.{AreBeside, AreKept, IsFollowing, IsLike, IsReady, StepsOn, lane_beside, states_of, track_in, with_behind}
 use Rattle.line_engine.specs.declared.track.Track.{Track}
 use Rattle.line_engine.proofs.Alike.{at_place, like_back, like_on, likes_at, state_at}

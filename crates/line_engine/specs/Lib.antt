@@ -1,6 +1,4 @@
-pub mod Given
-pub mod Stepped
-pub mod Indexed
+pub mod Named
 pub mod Kept
 pub mod Opens
 pub mod Blames

@@ -1,35 +1,18 @@
--- WHERE THE RECORD OF A BOARD STANDS, over some lanes: nowhere, where it has no mark; with marks that
--- give no standing; or at a standing, with its lane.
+-- WHERE THE RECORD OF A BOARD STANDS, over the lanes of a line, and what is told of it.
 use Rattle.std.specs.Prelude.{◌+◌, ◌==◌, ℕ, Bool, false, List, [], ◌∷◌, Option, Some, None, if◌then◌else◌}
-use Rattle.standings.specs.Standing.{standing_of}
 use Rattle.standings.specs.Told.{is_same_standing}
 use Rattle.standings.specs.declared.mark.Mark.{Mark}
-use Rattle.standings.specs.declared.standing.Standing.{Standing}
 use Rattle.line_report.specs.Lanes.{told_on}
 use Rattle.line_report.specs.declared.happening.Happening.TheVariants as happenings
 use Rattle.line_report.specs.declared.happening.LaneHappening.{LaneHappening}
 use Rattle.line_step.specs.State.{LineState, marks_in}
+use Rattle.line_marks.specs.Indexed.{marks_listed}
+use Rattle.line_marks.specs.Seats.{both, own_seat}
+use Rattle.line_marks.specs.declared.seat.LaneStanding.{LaneStanding}
+use Rattle.line_marks.specs.declared.seat.Seat.{Seat}
+use Rattle.line_marks.specs.declared.seat.Seat.TheVariants.{Nowhere, Unclear, At}
 use Rattle.line_lanes.specs.Shown.{LanePlace, standing_happens}
-use Rattle.line_engine.specs.Indexed.{marks_listed}
 use Rattle.line_engine.specs.declared.track.Track.{Track}
-use Rattle.line_engine.specs.declared.seat.LaneStanding.{LaneStanding}
-use Rattle.line_engine.specs.declared.seat.Seat.{Seat}
-use Rattle.line_engine.specs.declared.seat.Seat.TheVariants.{Nowhere, Unclear, At}
-
-abbrev pub seat_at : ℕ → Option Standing → Seat
-seat_at lane None = Unclear
-seat_at lane (Some standing) = At (record { lane = lane; standing = standing })
-
--- what marks on one lane give
-abbrev pub own_seat : ℕ → List Mark → Seat
-own_seat lane [] = Nowhere
-own_seat lane (mark ∷ marks) = seat_at lane (standing_of (mark ∷ marks))
-
--- what there is on some lanes and on others: marks here and there give no standing
-abbrev pub both : Seat → Seat → Seat
-both Nowhere other = other
-both one Nowhere = one
-both one other = Unclear
 
 -- on the lanes from this one on
 abbrev pub seat_from : ℕ → ℕ → List LineState → Seat

@@ -1,27 +1,10 @@
 -- What a machine on one lane leaves of it on another.
-use Rattle.std.specs.Prelude.{◌≡◌, ◌==◌, ◌-◌, ◌+◌, ℕ, Bool, List, [], ◌∷◌, Option, Some, None, map, option_map, slice_set, if◌then◌else◌}
-use Rattle.node_core.specs.Shared.{SharedParts, shared_of, with_shared}
-use Rattle.node_core.specs.Node.{NodeState}
-use Rattle.line_step.specs.State.{LineState, machine_in, one_more}
+use Rattle.std.specs.Prelude.{◌≡◌, ◌==◌, ◌+◌, ℕ, Bool, List, [], ◌∷◌, Option, Some, None, map, if◌then◌else◌}
+use Rattle.node_core.specs.Shared.{SharedParts}
+use Rattle.line_step.specs.State.{LineState, one_more}
+use Rattle.line_machines.specs.Sharing.{shared_in, sharing}
 use Rattle.line_engine.specs.declared.track.Track.{Track}
 use Rattle.line_engine.specs.declared.sharing.Shares.{Shares}
-
--- each machine's maker has its number
-abbrev pub AreNumbered : LineState → Type 0
-AreNumbered s =
-    (machine : ℕ) (node : NodeState) → machine_in machine s ≡ Some node
-    → node.maker.machine ≡ machine
-
-abbrev pub sharing_at : ℕ → SharedParts → Option NodeState → LineState → LineState
-sharing_at machine shared None s = s
-sharing_at machine shared (Some node) s =
-    record s { machines = slice_set s.machines (machine - 1) (with_shared shared node) }
-
--- a machine follows another of its lanes in what they share; where it isn't there nothing changes
-abbrev pub sharing : ℕ → SharedParts → LineState → LineState
-sharing machine shared s = sharing_at machine shared (machine_in machine s) s
-
--- ---- tracks
 
 abbrev pub sharing_track : ℕ → SharedParts → Track → Track
 sharing_track machine shared track = record track { state = sharing machine shared track.state }
@@ -33,10 +16,6 @@ sharing_track_if machine (Some shared) track = sharing_track machine shared trac
 abbrev pub unvouched_track : Option ℕ → Track → Track
 unvouched_track unvouched track =
     record track { state = record track.state { unvouched = unvouched } }
-
--- what a machine of a track has to share
-abbrev pub shared_in : ℕ → LineState → Option SharedParts
-shared_in machine s = option_map shared_of (machine_in machine s)
 
 -- two lanes have the same to share, at the machines of two numbers
 pub record ShareAlike (first last : ℕ) (one other : LineState) : Type 0 where

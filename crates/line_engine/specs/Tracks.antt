@@ -9,7 +9,7 @@ use Rattle.line_report.specs.Shifts.{shift_told}
 use Rattle.line_report.specs.declared.happening.Happening.TheVariants as happenings
 use Rattle.standings.specs.Marks.{Owned}
 use Rattle.standings.specs.declared.mark.Mark.{Mark}
-use Rattle.line_engine.specs.Stepped.{told_each}
+use Rattle.line_marks.specs.Stepped.{told_each}
 use Rattle.line_report.specs.declared.happening.Happening.{Happening}
 use Rattle.line_report.specs.declared.happening.LaneHappening.{LaneHappening}
 use Rattle.line_step.specs.Named.{ids_named}
@@ -20,12 +20,14 @@ use Rattle.line_step.specs.Steps.{MachineSteps}
 use Rattle.line_step.specs.Together.{IsLineTogether}
 use Rattle.line_lanes.specs.Lanes.{Lanes}
 use Rattle.line_lanes.specs.Shown.{standings_on}
-use Rattle.line_engine.specs.declared.index.Moved.{Moved}
+use Rattle.line_marks.specs.declared.index.Moved.{Moved}
 use Rattle.line_engine.specs.declared.track.Track.{Track}
-use Rattle.line_engine.specs.Indexed.{Entries, Follows, IsIndexOf, entry_at, indexed, marks_listed, patched}
-use Rattle.line_engine.specs.Given.{GivesBoard}
-use Rattle.line_engine.specs.Seats.{moved_told, own_seat, seat_beside, seat_listed, seat_told}
-use Rattle.line_engine.specs.Sharing.{AreNumbered, following, shared_in}
+use Rattle.line_marks.specs.Indexed.{Entries, Follows, IsIndexOf, entry_at, indexed, marks_listed, patched}
+use Rattle.line_machines.specs.Given.{GivesBoard}
+use Rattle.line_marks.specs.Seats.{own_seat}
+use Rattle.line_engine.specs.Seats.{moved_told, seat_beside, seat_listed, seat_told}
+use Rattle.line_machines.specs.Sharing.{AreNumbered, shared_in}
+use Rattle.line_engine.specs.Sharing.{following}
 use Rattle.line_engine.specs.declared.sharing.Shares.{Shares}
 
 abbrev pub state_of : Track → LineState

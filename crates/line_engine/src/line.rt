@@ -1,11 +1,9 @@
-ghost use Rattle.std.specs.Prelude.{◌≡◌, ◌+◌, ◌≤◌, ℕ, None, true, false, IfOk, IsErr, OnErr, OnOk, length, option_map};
+ghost use Rattle.std.specs.Prelude.{◌≡◌, ◌+◌, ◌≤◌, ℕ, None, true, false, IfOk, IsErr, OnErr, length, option_map};
 ghost use Rattle.line_link.specs.Flow.{coming};
 ghost use Rattle.line_link.specs.Link.{flow_to};
 ghost use Rattle.line_step.specs.World.{end_of, link_at, link_of};
-ghost use Rattle.line_script.specs.Ranges.{IsBetween, IsLaneWithin, IsWithin};
-ghost use Rattle.line_script.specs.declared.line.LaneLine.TheVariants as lane_lines;
+ghost use Rattle.line_script.specs.Ranges.{IsLaneWithin, IsWithin};
 ghost use Rattle.line_script.specs.declared.line.ScriptLine.TheVariants as lines;
-ghost use Rattle.line_step.specs.Parts.{count_behind};
 ghost use Rattle.line_step.specs.State.{marks_in};
 ghost use Rattle.first_in_first_out.specs.Along.{GoInOrder};
 ghost use Rattle.one_standing.specs.Facts.{HasCustodyFacts};
@@ -14,7 +12,7 @@ ghost use Rattle.one_standing.specs.Standing.{HasOneStanding, IsFitLine};
 ghost use Rattle.line_bounds.specs.Within.{IsBounded};
 ghost use Rattle.line_lanes.specs.Along.{EachLaneLineHasAStep, IsFitLaneLine, IsLaneReached, IsOnOneLane};
 ghost use Rattle.line_lanes.specs.Lanes.{lines_of, no_lanes, track, unvouched_of};
-ghost use Rattle.line_lanes.specs.Parts.{LaneLineSteps, cut_where, notice_where, stop_parts, stops_on};
+ghost use Rattle.line_lanes.specs.Parts.{LaneLineSteps};
 ghost use Rattle.line_lanes.specs.Shown.{marked_on, standing_on};
 ghost use Rattle.line_lanes.specs.Views.{summary_on};
 ghost use Rattle.line_engine.specs.AllMarks.{AreAllMarks};
@@ -23,11 +21,11 @@ ghost use Rattle.line_engine.specs.Next.{AnswersNext, BlameNext, ContentsNext, L
 ghost use Rattle.line_engine.specs.Seats.{place_of};
 ghost use Rattle.line_engine.specs.Whole.{OverLanes};
 
-use crate::all_marks::{LaneMark, add_marks};
-use crate::seat::{LaneStanding, place_in};
+use crate::seat::place_in;
 use crate::tracks::Tracks;
 use board_record::BoardId;
 use line_base::{Memory, Side, Text};
+use line_marks::{LaneMark, LaneStanding, add_marks};
 use line_report::{LaneHappened, Summary};
 use line_script::{LaneLine, ScriptLine};
 use standings::Mark;

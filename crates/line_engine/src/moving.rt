@@ -7,17 +7,14 @@ ghost use Rattle.line_lanes.specs.Steps.{LanesDo};
 ghost use Rattle.line_script.specs.Ranges.{IsBetween};
 ghost use Rattle.line_script.specs.declared.line.LaneLine.TheVariants as lane_lines;
 ghost use Rattle.line_step.specs.Reasons.{may_do, may_give_away, may_take_in};
-ghost use Rattle.line_engine.specs.Seats.{both};
-ghost use Rattle.std.specs.Prelude.{◌==◌};
 ghost use Rattle.line_engine.specs.Tracks.{AreKept, FollowsBoth, GivesOn, IsReady, MayOn, TakesOn, TellsDone, lanes_of};
 
-use crate::changed::ids_of_both;
 use crate::seat::tell_seat;
-use crate::span::Span;
-use crate::stepping::Gave;
 use crate::tracks::Tracks;
 use board_record::BoardId;
 use line_base::Memory;
+use line_machines::Gave;
+use line_marks::{Span, ids_of_both};
 use line_report::{Happened, Happening, LaneHappened, Reason, tell_shift};
 use node_core::{No, Passage};
 

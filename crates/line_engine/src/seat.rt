@@ -1,62 +1,16 @@
-//! Where the record of a board stands, over the lanes of a line.
+//! What is told of where the record of a board stands, over the lanes of a line.
 
 ghost use Rattle.std.specs.Prelude.{◌≡◌, ◌++◌, OnOk, Some, option_map};
 ghost use Rattle.standings.specs.Told.{is_same_standing};
 ghost use Rattle.line_lanes.specs.Shown.{standing_happens};
-ghost use Rattle.line_engine.specs.Seats.{both, is_same_seat, own_seat, place_in, place_of, seat_at, seat_told};
+ghost use Rattle.line_marks.specs.declared.seat.Seat.TheVariants.{Nowhere};
+ghost use Rattle.line_engine.specs.Seats.{is_same_seat, place_in, place_of, seat_told};
 
 use board_record::BoardId;
 use line_base::Memory;
+use line_marks::{LaneStanding, Seat};
 use line_report::{Happening, LaneHappened};
-use standings::{Mark, Standing, standing_of};
-
-/// Where a board's record stands, and on which lane.
-#[derive(Clone, Copy, Debug, PartialEq, Eq)]
-pub struct LaneStanding {
-    pub lane: u32,
-    pub standing: Standing,
-}
-
-/// What the marks of a board on some lanes give.
-#[derive(Clone, Copy)]
-pub enum Seat {
-    /// It has no mark.
-    Nowhere,
-    /// Its marks give no standing.
-    Unclear,
-    /// It stands there.
-    At(LaneStanding),
-}
-
-fn seat_at(lane: u32, standing: Option<Standing>) -> Seat
-    ensures { result ≡ seat_at lane standing }
-{
-    match standing {
-        None => Seat::Unclear,
-        Some(standing) => Seat::At(LaneStanding { lane, standing }),
-    }
-}
-
-/// What marks on one lane give.
-pub fn own_seat(lane: u32, marks: &[Mark]) -> Seat
-    ensures { result ≡ own_seat lane marks.now }
-{
-    if marks.is_empty() {
-        return Seat::Nowhere;
-    }
-    seat_at(lane, standing_of(marks))
-}
-
-/// What there is on some lanes and on others.
-pub fn both(one: Seat, other: Seat) -> Seat
-    ensures { result ≡ both one other }
-{
-    match (one, other) {
-        (Seat::Nowhere, other) => other,
-        (one, Seat::Nowhere) => one,
-        (_, _) => Seat::Unclear,
-    }
-}
+use standings::Standing;
 
 /// The standing, if there is one.
 pub fn place_in(seat: Seat) -> Option<LaneStanding>
@@ -91,7 +45,7 @@ pub fn tell_seat(
 }
 
 fn tell_gone(id: BoardId, before: Seat, told: &mut LaneHappened) -> Result<(), Memory>
-    ensures { OnOk result (told.new ≡ told.old ++ seat_told id before Seat.Nowhere) }
+    ensures { OnOk result (told.new ≡ told.old ++ seat_told id before Nowhere) }
 {
     match before {
         Seat::Nowhere => Ok(()),

@@ -1,13 +1,14 @@
 //! What the lanes of a machine share: the others follow the one that stepped.
 
 ghost use Rattle.std.specs.Prelude.{◌≡◌, ◌↔◌, map, true};
-ghost use Rattle.line_engine.specs.Sharing.{AreNumbered, ShareAlike, followed_with, shared_in, shared_with, sharing_track, sharing_track_if, unvouched_track};
+ghost use Rattle.line_machines.specs.Sharing.{AreNumbered, shared_in};
+ghost use Rattle.line_engine.specs.Sharing.{ShareAlike, followed_with, shared_with, sharing_track, sharing_track_if, unvouched_track};
 ghost use Rattle.line_engine.specs.Tracks.{AreBeside, IsFollowing, IsReady, SharesOf, lane_beside};
 
-use crate::span::Span;
-use crate::state::State;
 use crate::track::Track;
 use crate::tracks::Tracks;
+use line_machines::State;
+use line_marks::Span;
 use node_core::Shared;
 
 impl Tracks {

@@ -1,11 +1,10 @@
 ghost use Rattle.std.specs.Prelude.{◌≤◌, IfOk, length};
 ghost use Rattle.line_engine.specs.Tracks.{FollowsTrack};
 
-use crate::index::{Index, Moved};
-use crate::span::Span;
-use crate::state::State;
 use board_record::BoardId;
 use line_base::Memory;
+use line_machines::State;
+use line_marks::{Index, Moved, Span};
 
 /// A lane along the whole line: its line, and the index of its boards.
 #[derive(Drop)]

@@ -16,27 +16,27 @@ ghost use Rattle.line_step.specs.Reasons.{may_do, no_if};
 ghost use Rattle.line_step.specs.Requests.{adds, request_of, stops};
 ghost use Rattle.line_step.specs.State.{LineState};
 ghost use Rattle.node_core.specs.declared.input.No.TheVariants as nos;
-ghost use Rattle.line_engine.specs.Given.{is_of_lane};
+ghost use Rattle.line_machines.specs.Given.{is_of_lane};
 ghost use Rattle.line_engine.specs.Kept.{is_counted};
 ghost use Rattle.line_engine.specs.Each.{GoesOn};
-ghost use Rattle.line_engine.specs.Indexed.{marks_listed};
-ghost use Rattle.line_engine.specs.Seats.{both, own_seat, seat_beside as seat_on_others, seat_listed};
-ghost use Rattle.line_engine.specs.declared.seat.Seat.TheVariants.{Nowhere};
+ghost use Rattle.line_marks.specs.Indexed.{marks_listed};
+ghost use Rattle.line_marks.specs.Seats.{both, own_seat};
+ghost use Rattle.line_engine.specs.Seats.{seat_beside as seat_on_others, seat_listed};
+ghost use Rattle.line_marks.specs.declared.seat.Seat.TheVariants.{Nowhere};
 ghost use Rattle.std.specs.Prelude.{◌==◌, SomeIff};
 ghost use Rattle.line_engine.specs.Summed.{added_up, is_told};
 ghost use Rattle.std.specs.List.{AllByRecursion};
 ghost use Rattle.line_engine.specs.Sharing.{counted_track, grown};
 ghost use Rattle.line_engine.specs.Tracks.{AreKept, FollowsDone, FollowsOne, HasRoom, IsReady, StepsOn, TellsDone, empty_track, empty_tracks, lanes_of, made_told, states_of, track_in};
 
-use crate::changed::ids_named;
-use crate::index::{Index, Moved};
-use crate::seat::{Seat, both, own_seat, tell_seat};
+use crate::named::may_name;
+use crate::seat::tell_seat;
 use crate::show::show_front;
-use crate::span::{Span, stepped};
-use crate::state::State;
 use crate::track::Track;
 use board_record::BoardId;
 use line_base::Memory;
+use line_machines::State;
+use line_marks::{Index, Moved, Seat, Span, both, ids_named, own_seat, stepped};
 use line_report::{Happened, Happening, LaneHappened, Reason, Summary};
 use line_script::{LaneLine, ScriptLine};
 use node_core::No;
@@ -237,7 +237,7 @@ impl Tracks {
         requires within { IsWithin line.now }
         ensures { result ≡ may_on lane (request_of line.now) (lanes_of self.now) }
     {
-        match self.first.state.may_name(line) {
+        match may_name(&self.first.state, line) {
             Ok(()) => self.may_use(lane),
             Err(reason) => Err(reason),
         }

@@ -1,6 +1,7 @@
 use Rattle.std.proofs.Common.{◌∙◌, ◌+◌, List, ap, arith}
 use Rattle.standings.specs.declared.mark.Mark.{Mark}
-use Rattle.line_engine.specs.Seats.{both, own_seat, seat_listed}
+use Rattle.line_marks.specs.Seats.{both, own_seat}
+use Rattle.line_engine.specs.Seats.{seat_listed}
 use Rattle.line_engine.proofs.Seating.{seats_last, seats_next}
 use Rattle.line_engine.proofs.tracks.seat_with.Goals as goal
 

@@ -1,5 +1,6 @@
 use Rattle.std.proofs.Common.{◌≡◌, ◌+◌, drop}
-use Rattle.line_engine.specs.Seats.{both, seat_listed}
+use Rattle.line_marks.specs.Seats.{both}
+use Rattle.line_engine.specs.Seats.{seat_listed}
 use Rattle.line_engine.proofs.tracks.seat_with.Given as goal
 
 abbrev pub invariant-loop-track : goal.invariant-loop-track

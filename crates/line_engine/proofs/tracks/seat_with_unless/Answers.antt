@@ -1,5 +1,6 @@
 use Rattle.std.proofs.Common.{◌∙◌, ◌+◌, ap, arith}
-use Rattle.line_engine.specs.Seats.{both, seat_beside}
+use Rattle.line_marks.specs.Seats.{both}
+use Rattle.line_engine.specs.Seats.{seat_beside}
 use Rattle.line_engine.proofs.Seating.{others_last, others_next}
 use Rattle.line_engine.proofs.tracks.seat_with_unless.Goals as goal
 

@@ -1,9 +1,10 @@
 use Rattle.std.proofs.Common.{◌≤◌, ◌+◌, arith, length, subst, sym}
 use Rattle.line_step.specs.State.{owned}
 use Rattle.line_lanes.specs.Lanes.{track}
-use Rattle.line_engine.specs.AllMarks.{AreAscending}
+use Rattle.line_marks.specs.AllMarks.{AreAscending}
 use Rattle.line_engine.proofs.Lanes.{states_wide}
-use Rattle.line_engine.proofs.Marking.{lanes_more, marks_all, marks_ascend, none_beyond}
+use Rattle.line_marks.proofs.Marking.{lanes_more, marks_ascend, none_beyond}
+use Rattle.line_engine.proofs.Marking.{marks_all}
 use Rattle.line_engine.proofs.line.Line.all_marks.Goals as goal
 
 pub add_marks-requires-clause-ascending : goal.add_marks-requires-clause-ascending

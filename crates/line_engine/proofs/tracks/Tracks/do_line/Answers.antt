@@ -6,7 +6,7 @@ use Rattle.line_step.specs.Lines.{LineDoes}
 use Rattle.line_step.specs.Requests.{request_of}
 use Rattle.line_step.specs.State.{LineState}
 use Rattle.line_step.specs.Together.{IsLineTogether}
-use Rattle.line_engine.specs.Sharing.{AreNumbered}
+use Rattle.line_machines.specs.Sharing.{AreNumbered}
 use Rattle.line_engine.specs.Tracks.{StepsOn}
 use Rattle.line_engine.specs.declared.track.Track.{Track}
 use Rattle.line_engine.proofs.Lanes.{IsLater, later, later_set, later_there}

@@ -4,9 +4,9 @@ use Rattle.std.specs.Prelude.{slice_set}
 use Rattle.line_step.specs.Reasons.{may_do, may_give_away}
 use Rattle.line_step.specs.Together.{IsLineTogether}
 use Rattle.line_step.specs.State.{LineState}
-use Rattle.line_engine.specs.Given.{GivesBoard}
+use Rattle.line_machines.specs.Given.{GivesBoard}
 use Rattle.line_engine.specs.Tracks.{GivesOn}
-use Rattle.line_engine.specs.declared.stepping.Gave.{Gave}
+use Rattle.line_machines.specs.declared.stepping.Gave.{Gave}
 use Rattle.line_engine.specs.declared.track.Track.{Track}
 use Rattle.line_engine.proofs.Lanes.{IsLater, later, later_set, later_there, own_ready}
 use Rattle.line_engine.proofs.tracks.Tracks.give_away.Goals as goal

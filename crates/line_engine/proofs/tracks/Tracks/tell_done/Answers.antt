@@ -3,9 +3,10 @@ use Rattle.line_report.specs.declared.happening.Happening.{Happening}
 use Rattle.line_step.specs.Named.{ids_named}
 use Rattle.line_step.specs.Shown.{ascending}
 use Rattle.line_step.specs.Together.{IsLineTogether}
-use Rattle.line_engine.specs.Seats.{both, seat_told}
-use Rattle.line_engine.specs.Sharing.{AreNumbered}
-use Rattle.line_engine.specs.declared.seat.Seat.{Seat}
+use Rattle.line_marks.specs.Seats.{both}
+use Rattle.line_engine.specs.Seats.{seat_told}
+use Rattle.line_machines.specs.Sharing.{AreNumbered}
+use Rattle.line_marks.specs.declared.seat.Seat.{Seat}
 use Rattle.line_engine.specs.declared.track.Track.{Track}
 use Rattle.line_engine.proofs.Lanes.{here}
 use Rattle.line_engine.proofs.Telling.{telling_begins, telling_ends, telling_few, telling_next, telling_ready}

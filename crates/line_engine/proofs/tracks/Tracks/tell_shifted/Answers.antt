@@ -4,7 +4,7 @@ use Rattle.line_step.specs.Named.{ids_named}
 use Rattle.line_step.specs.Shown.{ascending}
 use Rattle.line_engine.specs.Seats.{seat_listed, seat_told}
 use Rattle.line_engine.specs.Tracks.{FollowsOne}
-use Rattle.line_engine.specs.declared.seat.Seat.{Seat}
+use Rattle.line_marks.specs.declared.seat.Seat.{Seat}
 use Rattle.line_engine.proofs.OnBoth.{both_begins, both_end, both_more, follows_one, stay_ready}
 use Rattle.line_engine.proofs.tracks.Tracks.tell_shifted.Goals as goal
 

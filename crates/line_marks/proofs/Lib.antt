@@ -1,0 +1,9 @@
+pub mod Backwards
+pub mod Counted
+pub mod Followed
+pub mod Following
+pub mod Marking
+pub mod Patched
+pub mod Places
+pub mod Restored
+pub mod Rising

@@ -1,0 +1,4 @@
+pub mod Stepped
+pub mod Indexed
+pub mod Seats
+pub mod AllMarks
