@@ -4,7 +4,8 @@
 
 use line_base::{Memory, Word, Words};
 use line_cli::{Status, line_main};
-use line_outside::{ReaderSource, WriterSink};
+use line_outside::{ReaderSource, Sink, Source, WriterSink};
+use std::alloc::Global;
 use std::process::ExitCode;
 use std::rt::Env;
 use std::{env, io};
@@ -14,11 +15,21 @@ fn main(rt: HostRuntime) -> ExitCode {
         Ok(words) => {
             let mut script = ReaderSource::new(rt.stdin());
             let mut report = WriterSink::new(io::writer(&rt));
-            line_main(rt.alloc(), &words, &mut script, &mut report)
+            answer(rt.alloc(), &words, &mut script, &mut report)
         }
         Err(Memory) => Status::Memory,
     };
     ExitCode::from(status.exit_number())
+}
+
+/// The answer of `line_main`. Of all that holds of it, `main` needs nothing to end with its number.
+fn answer<S: Source, K: Sink>(
+    alloc: Global,
+    words: &Words,
+    script: &mut S,
+    report: &mut K,
+) -> Status {
+    line_main(alloc, words, script, report)
 }
 
 /// The words behind the program's name. Where one of them is no text, there are none, so that the

@@ -11,8 +11,8 @@ use Rattle.line_lanes.specs.Views.{lanes_text, summary_on}
 use Rattle.line_lanes.proofs.ScriptRuns.{firsts-set}
 use Rattle.made_script.specs.Fold.{fold_of}
 use Rattle.made_script.specs.Script.{made_script}
-use Rattle.line_cli.specs.Report.{ending, report_text}
-use Rattle.line_cli.specs.Making.{EachNumberHasOneMakeText, IsMakeText}
+use Rattle.line_commands.specs.Report.{ending, report_text}
+use Rattle.line_commands.specs.Making.{EachNumberHasOneMakeText, IsMakeText}
 use Rattle.line_cli.proofs.ReportOnce.{ending-like}
 
 -- without its last byte a line is what stands before it

@@ -5,8 +5,7 @@ use Rattle.hermes_horizontal.specs.Spelling.{Spells, IsRefused}
 use Rattle.hermes_horizontal.specs.Texts.{message_refusal_text}
 use Rattle.hermes_horizontal.specs.declared.fault.Fault.{Fault}
 use Rattle.hermes_horizontal.specs.declared.message.Message.{Message}
-use Rattle.line_cli.specs.Texts.{entry}
-use Rattle.line_cli.specs.ReadText.{message_text, IsMessageLine, IsRefusalLine, IsFrameLine, AreFrameLines, IsReadText, most_read, read_ending}
+use Rattle.stream_text.specs.ReadText.{entry, message_text, IsMessageLine, IsRefusalLine, IsFrameLine, AreFrameLines, IsReadText, most_read, read_ending}
 
 -- the laws of the messages
 pub record FramesAreTold : Type 0 where

@@ -5,8 +5,8 @@ use Rattle.line_lanes.specs.Lanes.{Lanes, no_lanes}
 use Rattle.line_lanes.specs.Once.{EachRunTellsOnce}
 use Rattle.line_lanes.specs.Parts.{all_points, state_behind}
 use Rattle.line_lanes.specs.Views.{lanes_text, summary_on}
-use Rattle.line_cli.specs.Script.{Refusal, script_of}
-use Rattle.line_cli.specs.Report.{IsReport, ending}
+use Rattle.line_commands.specs.Script.{Refusal, script_of}
+use Rattle.line_commands.specs.Report.{IsReport, ending}
 
 -- the last line says the numbers of the summary
 pub ending-like : (s other : Lanes) (refusal : Option Refusal) → summary_on s ≡ summary_on other → ending s refusal ≡ ending other refusal

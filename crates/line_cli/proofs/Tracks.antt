@@ -4,9 +4,9 @@ use Rattle.line_lanes.specs.Along.{EachFrontIsATrack, EachLaneIsATrack, EachReco
 use Rattle.line_lanes.specs.Lanes.{no_lanes}
 use Rattle.line_lanes.specs.Parts.{IsLaneRun, IsShort, LanePoint, all_points}
 use Rattle.line_lanes.proofs.ScriptRuns.{run-short}
-use Rattle.line_cli.specs.Script.{script_of}
+use Rattle.line_commands.specs.Script.{script_of}
 use Rattle.line_cli.specs.Tracks.{EachFrontIsRun, EachLaneIsRun, EachRecordHasOneLane, EachRecordStandsOnLanes}
-use Rattle.line_cli.proofs.FitScript.{scripts_are_fit}
+use Rattle.line_commands.proofs.FitScript.{scripts_are_fit}
 
 short : (bytes : List ℕ) (done : List (List LanePoint)) → IsLaneRun no_lanes (script_of bytes).lines done → IsShort no_lanes (all_points done)
 short bytes done run =

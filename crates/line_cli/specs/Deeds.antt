@@ -1,19 +1,17 @@
 -- WHAT IS READ OFF A REPORT of a script: of each lane the ledger that its bytes tell, the standings,
 -- and the starts that its openings answer.
-use Rattle.std.specs.Prelude.{◌≡◌, ◌≤◌, ◌++◌, List, [], ℕ}
-use Rattle.line_script.specs.declared.line.LaneLine.{LaneLine}
+use Rattle.std.specs.Prelude.{◌≤◌, List, [], ℕ}
 use Rattle.line_lanes.specs.Lanes.{no_lanes}
 use Rattle.line_lanes.specs.Parts.{IsLaneRun, LanePoint, all_points, state_behind}
-use Rattle.line_lanes.specs.Views.{lanes_text}
-use Rattle.report_ledger.specs.Ledgers.{AreUnnumbered}
-use Rattle.report_ledger.specs.ReportLines.{lines_in, vouched}
+use Rattle.report_lines.specs.Lines.{lines_in}
+use Rattle.report_ledger.specs.ReportLines.{vouched}
 use Rattle.report_ledger.specs.Asked.{OpensWereAskedOn}
 use Rattle.report_ledger.specs.Fronts.{LaneFrontTells}
 use Rattle.report_ledger.specs.Ledgers.{TellsLaneLedger, honest_on}
-use Rattle.report_ledger.specs.Proper.{ArePointsProper}
+use Rattle.report_lines.specs.Proper.{ArePointsProper}
 use Rattle.report_ledger.specs.Standings.{TellsLaneStandings}
-use Rattle.line_cli.specs.Report.{report_text}
-use Rattle.line_cli.specs.Script.{script_of}
+use Rattle.line_commands.specs.Report.{IsToldFirst, report_text}
+use Rattle.line_commands.specs.Script.{script_of}
 
 -- THE LAW: whoever reads the deeds of a lane off the report of a script alone, up to the first line
 -- that told what was not so, finds them legal, and has the ledger of the lane in the state before
@@ -40,20 +38,6 @@ EachReportTellsItsStarts =
     → IsLaneRun no_lanes (script_of bytes).lines done → ArePointsProper (all_points done)
     → OpensWereAskedOn lane gap []
     (vouched (lines_in (report_text (all_points done) (script_of bytes).refusal)))
-
--- a text is a front of what the first lines of a script tell, or of that with a last line behind it;
--- their ids, names and lanes are what their types allow
-pub record IsToldFirst (bytes text : List ℕ) : Type 0 where
-  pub lines : List LaneLine
-  pub others : List LaneLine
-  pub all : (script_of bytes).lines ≡ lines ++ others
-  pub done : List (List LanePoint)
-  pub run : IsLaneRun no_lanes lines done
-  pub proper : ArePointsProper (all_points done)
-  pub ending : List ℕ
-  pub last : AreUnnumbered (lines_in ending)
-  pub rest : List ℕ
-  pub front : text ++ rest ≡ lanes_text 1 (all_points done) ++ ending
 
 -- whoever has such a front alone, as a fault may leave it, reads off its lines before those of its
 -- last number the ledger and the standings of each lane behind the lines of the script with smaller

@@ -6,7 +6,7 @@ use Rattle.line_lanes.specs.Along.{IsHonestTrackOf, IsOnOneLane, IsTrackOf, Stan
 use Rattle.line_lanes.specs.Lanes.{no_lanes}
 use Rattle.line_lanes.specs.Parts.{IsLaneRun, LanePoint, all_points}
 use Rattle.line_lanes.specs.Views.{has_lie_on}
-use Rattle.line_cli.specs.Script.{script_of}
+use Rattle.line_commands.specs.Script.{script_of}
 
 -- whatever bytes a script is read from: short on each lane, and up to the first lie on any lane fit,
 -- with boards that come only from where they were at home

@@ -1,4 +1,3 @@
-ghost use Rattle.std.specs.Prelude.{◌≡◌};
 ghost use Rattle.contents_kept.specs.Contents.{ContentsStayWhole};
 ghost use Rattle.contents_kept.specs.There.{StandingsNameWhatIsThere};
 ghost use Rattle.first_in_first_out.specs.Order.{FirstInFirstOut};
@@ -20,29 +19,24 @@ ghost use Rattle.twelve_steps.specs.Example.{IsReachedAnnounced};
 ghost use Rattle.twelve_steps.specs.Twelve.{EndsWithinTwelveSteps};
 ghost use Rattle.whoever_goes_on.specs.Play.{EndsForWhoeverGoesOn};
 ghost use Rattle.work_orders.specs.Answers.{OneAnswer};
-ghost use Rattle.line_cli.specs.Answered.{EachInputHasOneAnswer, IsAnswered};
-ghost use Rattle.line_cli.specs.Command.{DoesAs, FitsWords, HasCauses, is_word, is_run, is_read, is_check, usage_text};
+ghost use Rattle.line_commands.specs.Answered.{EachInputHasOneAnswer, IsAnswered};
+ghost use Rattle.line_commands.specs.Command.{DoesAs, FitsWords, is_run, is_read, is_check};
+ghost use Rattle.line_status.specs.Status.{HasCauses};
 ghost use Rattle.line_cli.specs.Deeds.{EachFrontTellsItsLedger, EachReportTellsItsLedger, EachReportTellsItsStandings, EachReportTellsItsStarts};
-ghost use Rattle.line_cli.specs.Making.{EachNumberHasOneMakeText, made_number};
-ghost use Rattle.line_cli.specs.Premises.{ScriptsAreFit};
-ghost use Rattle.line_cli.specs.ReadText.{EachStreamHasOneReadText};
-ghost use Rattle.line_cli.specs.Report.{EachScriptHasOneReport};
+ghost use Rattle.line_commands.specs.Making.{EachNumberHasOneMakeText, made_number};
+ghost use Rattle.line_commands.specs.Premises.{ScriptsAreFit};
+ghost use Rattle.stream_text.specs.ReadText.{EachStreamHasOneReadText};
+ghost use Rattle.line_commands.specs.Report.{EachScriptHasOneReport};
+ghost use Rattle.line_cli.specs.Right.{SparesRight};
 ghost use Rattle.line_cli.specs.Tracks.{EachFrontIsRun, EachLaneIsRun, EachRecordHasOneLane, EachRecordStandsOnLanes};
 
-use crate::checking::check_merged;
 use crate::laws::{
     each_input_has_one_answer, each_lane_is_run, one_make_text, one_report, read_once,
 };
-use crate::making::{made_number, write_made};
-use crate::reading::read_stream;
-use crate::running::run_script;
-use crate::status::Status;
-use line_base::{Word, Words};
-use line_outside::{Sink, Source, push_all};
+use line_base::Words;
+use line_commands::{Status, do_words};
+use line_outside::{Sink, Source};
 use std::alloc::Global;
-
-/// What is written where the words are none of the program's forms.
-const USAGE: &str = "usage: line run | line read | line check | line make <number>\n";
 
 /// The program `line`: does what the words behind its name ask for.
 ///
@@ -146,6 +140,10 @@ pub fn line_main<S: Source, K: Sink>(
     // what is told as an answer to a question for a work order is the one answer that its machine
     // keeps, over the run of every script
     ensures answers { OneAnswer }
+    // the log of running machines is never refuted, where each read all that its sensors saw before
+    // it took an input, or heard a message once it had read all that they had seen before it was said
+    // and each board was let go behind the reading, and where it is merged in the order of their steps
+    ensures right { SparesRight (S.left script.old) result }
     // where each machine is supervised before its first mark, a supervisor who folds what it is
     // told knows where each board is
     ensures replay { ReplayAgrees }
@@ -179,47 +177,8 @@ pub fn line_main<S: Source, K: Sink>(
     whoever_goes_on::laws::whoever_goes_on_ends_it();
     line_openings::laws::a_machine_opens_exactly_when_announced();
     work_orders::laws::each_query_has_one_answer();
+    running_logs::laws::the_merged_log_of_a_run_that_reads_first_is_right();
+    running_logs::laws::the_merged_log_of_a_run_behind_the_reading_is_right();
     supervisor_replay::laws::the_replay_agrees_with_the_marks();
     do_words(alloc, words, script, report)
-}
-
-/// Does what the words ask for.
-fn do_words<S: Source, K: Sink>(
-    alloc: Global,
-    words: &Words,
-    script: &mut S,
-    report: &mut K,
-) -> Status
-    ensures does { DoesAs (is_run words.now) (is_read words.now) (is_check words.now)
-        (made_number words.now) (S.left script.old) (S.left script.new) (K.contents report.old)
-        (K.contents report.new) (K.faults report.old) (K.faults report.new) result }
-    ensures fits { FitsWords (is_run words.now) (is_read words.now) (is_check words.now)
-        (made_number words.now) result }
-    ensures causes { HasCauses result (S.faults script.old) (S.faults script.new)
-        (K.faults report.old) (K.faults report.new) }
-{
-    if is_word(words.list(), b"run") {
-        return run_script(alloc, script, report);
-    }
-    if is_word(words.list(), b"read") {
-        return read_stream(alloc, script, report);
-    }
-    if is_word(words.list(), b"check") {
-        return check_merged(alloc, script, report);
-    }
-    if let Some(number) = made_number(words.list()) {
-        return write_made(alloc, number, report);
-    }
-    let _pushed = push_all(report, USAGE.as_bytes());
-    Status::Usage
-}
-
-/// Whether the words are this word alone.
-fn is_word(words: &[Word], asked: &[u8]) -> bool
-    ensures { result ≡ is_word asked.now words.now }
-{
-    match words {
-        [word] => word.bytes() == asked,
-        _ => false,
-    }
 }

@@ -1,10 +1,10 @@
 //! The laws of what the program writes.
 
 ghost use Rattle.std.specs.Prelude.{◌≡◌, ℕ, List};
-ghost use Rattle.line_cli.specs.Answered.{EachInputHasOneAnswer};
-ghost use Rattle.line_cli.specs.Making.{IsMakeText};
-ghost use Rattle.line_cli.specs.ReadText.{IsReadText};
-ghost use Rattle.line_cli.specs.Report.{IsReport};
+ghost use Rattle.line_commands.specs.Answered.{EachInputHasOneAnswer};
+ghost use Rattle.line_commands.specs.Making.{IsMakeText};
+ghost use Rattle.stream_text.specs.ReadText.{IsReadText};
+ghost use Rattle.line_commands.specs.Report.{IsReport};
 ghost use Rattle.line_cli.specs.Tracks.{EachFrontIsRun, EachLaneIsRun, EachRecordHasOneLane, EachRecordStandsOnLanes};
 
 /// A stream of messages has one read text.

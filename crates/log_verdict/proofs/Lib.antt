@@ -2,4 +2,3 @@ pub mod LinesLemmas
 pub mod Following
 pub mod Going
 pub mod Verdicts
-pub mod Spared

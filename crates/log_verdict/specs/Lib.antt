@@ -3,4 +3,3 @@ pub mod Verdict
 pub mod Written
 pub mod LogReader
 pub mod Reading
-pub mod Right

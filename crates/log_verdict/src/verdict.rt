@@ -1,4 +1,3 @@
-ghost use Rattle.log_verdict.specs.Right.{SparesRight};
 ghost use Rattle.log_verdict.specs.Verdict.{Checks, HasCauses, no_text, yes_text};
 ghost use Rattle.log_verdict.specs.Written.{WritesNo, WritesYes};
 
@@ -16,23 +15,7 @@ use std::alloc::Global;
 /// group each id with a mark has exactly one standing; `Refuted` only where that reason is the
 /// first. A fault comes only where the count of that object rose. Who merged the log isn't
 /// trusted.
-///
-/// The log of running machines is never refuted, where each read all that its sensors saw before
-/// it took an input, or heard a message once it had read all that they had seen before it was said
-/// and each board was let go behind the reading, and where it is merged in the order of their steps.
 pub fn check_log<S: Source, K: Sink>(alloc: Global, log: &mut S, verdict: &mut K) -> Checked
-    ensures checks { Checks (S.left log.old) (S.left log.new) (K.contents verdict.old)
-        (K.contents verdict.new) result }
-    ensures causes { HasCauses result (S.faults log.old) (S.faults log.new) (K.faults verdict.old)
-        (K.faults verdict.new) }
-    ensures right { SparesRight (S.left log.old) result }
-{
-    running_logs::laws::the_merged_log_of_a_run_that_reads_first_is_right();
-    running_logs::laws::the_merged_log_of_a_run_behind_the_reading_is_right();
-    judge(alloc, log, verdict)
-}
-
-fn judge<S: Source, K: Sink>(alloc: Global, log: &mut S, verdict: &mut K) -> Checked
     ensures checks { Checks (S.left log.old) (S.left log.new) (K.contents verdict.old)
         (K.contents verdict.new) result }
     ensures causes { HasCauses result (S.faults log.old) (S.faults log.new) (K.faults verdict.old)

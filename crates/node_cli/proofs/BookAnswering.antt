@@ -1,8 +1,6 @@
 -- What the program answers over a book is the one answer, or a fault with its cause, or want of memory.
 use Rattle.std.proofs.Common.{◌≡◌, ◌∙◌, sym, subst, refl, ap, ℕ, ℤ, ◌≤◌, ◌<◌, Bool, true, false, List, [], ◌∷◌, ◌++◌, Option, None, Some, Result, Ok, Err, inl, inr, length, append-nil, arith}
 use Rattle.std.proofs.lemmas.List.Elements.{All-nil, All-push}
-use Rattle.book_entry.specs.declared.entry.Entry.{Entry}
-use Rattle.book_keeper.specs.Keeping.{IsCut}
 use Rattle.kept_runs.specs.Kept.{BeginAsOne, EachKeptRunIsOne, EndsKept, IsFullKept, IsWholeKept}
 use Rattle.line_outside.specs.Given.{Given}
 use Rattle.line_outside.specs.Ports.{Gains}
@@ -10,14 +8,12 @@ use Rattle.line_outside.specs.Sink.{Grows}
 use Rattle.machine_log.specs.Drives.{all_off, drives_after}
 use Rattle.machine_log.specs.declared.drives.Drives.{Drives}
 use Rattle.node_core.specs.Node.{NodeState, new_node}
-use Rattle.node_core.specs.declared.act.Act.{Act}
 use Rattle.node_run.specs.Booked.{HasRunKept, StopsFull, most_book}
 use Rattle.node_run.specs.Gone.{begins_again}
 use Rattle.node_run.specs.Next.{next_of}
 use Rattle.node_run.specs.Runs.{IsMoment}
 use Rattle.node_run.specs.State.{RunState, resumed as begun}
 use Rattle.node_run.specs.Told.{neighbours_of, profile_of, rules_of}
-use Rattle.node_run.specs.declared.booked.BookedStatus.{BookedStatus}
 use Rattle.node_run.specs.declared.booked.BookedStatus.TheVariants as booked
 use Rattle.node_run.specs.declared.place.Next.TheVariants as nexts
 use Rattle.node_run.specs.declared.status.NodeStatus.{NodeStatus}
@@ -26,11 +22,11 @@ use Rattle.node_settings.specs.Settings.{Refusal, read_of}
 use Rattle.node_settings.specs.declared.settings.Settings.{Settings}
 use Rattle.one_run.specs.One.{Agree, answers_of}
 use Rattle.restart_book.specs.Exactly.{EachBookHasOneAnswer}
-use Rattle.restart_book.specs.Replay.{IsResumed, IsResumedAs}
-use Rattle.node_cli.specs.BookAnswered.{Becomes, BookAnswers, Change, Counts, EachBookInputHasOneAnswer, GoesOn, IsBookAnswer, IsBookAnswered, IsBookRun, IsEndAlone, IsReadAnswer, answered, book_failed, counts, file_failed, goes_on, is_bad, is_too_long, kept_on, log_failed, memory_wanted, stays}
-use Rattle.node_cli.specs.Books.{DoesBook, DoesBookFile, DoesNodeBook, DoesRead, DoesTold, HasBookCauses, IsUntouched, Outside, RunsOn, book_status}
-use Rattle.node_cli.specs.declared.book_status.BookStatus.{BookStatus}
-use Rattle.node_cli.specs.declared.book_status.BookStatus.TheVariants as ends
+use Rattle.restart_book.specs.Replay.{IsResumedAs}
+use Rattle.node_cli.specs.BookAnswered.{BookAnswers, Change, Counts, EachBookInputHasOneAnswer, GoesOn, IsBookAnswer, IsBookAnswered, IsBookRun, IsEndAlone, IsReadAnswer, answered, book_failed, counts, file_failed, goes_on, is_bad, is_too_long, kept_on, log_failed, memory_wanted, stays}
+use Rattle.node_commands.specs.Books.{DoesBook, DoesBookFile, DoesNodeBook, DoesRead, HasBookCauses, IsUntouched, Outside, RunsOn, book_status}
+use Rattle.node_commands.specs.declared.book_status.BookStatus.{BookStatus}
+use Rattle.node_commands.specs.declared.book_status.BookStatus.TheVariants as ends
 
 -- ---- the program's answer
 

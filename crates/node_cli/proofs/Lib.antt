@@ -1,6 +1,2 @@
 pub mod Answering
-pub mod Bounds
-pub mod Files
-pub mod Doing
-pub mod Beginning
 pub mod BookAnswering

@@ -25,9 +25,9 @@ use Rattle.node_settings.specs.declared.settings.Settings.{Settings}
 use Rattle.one_run.specs.One.{Agree, answers_of}
 use Rattle.restart_book.specs.Replay.{IsBadAt, IsResumedAs}
 use Rattle.restart_book.specs.declared.resuming.BookWhy.{BookWhy}
-use Rattle.node_cli.specs.Books.{Outside, book_status}
-use Rattle.node_cli.specs.declared.book_status.BookStatus.{BookStatus}
-use Rattle.node_cli.specs.declared.book_status.BookStatus.TheVariants as ends
+use Rattle.node_commands.specs.Books.{Outside, book_status}
+use Rattle.node_commands.specs.declared.book_status.BookStatus.{BookStatus}
+use Rattle.node_commands.specs.declared.book_status.BookStatus.TheVariants as ends
 
 -- what becomes of the book: it stays, or it is cut to its first bytes, so many, and has these entries
 -- behind them

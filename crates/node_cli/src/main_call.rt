@@ -1,19 +1,17 @@
-ghost use Rattle.std.specs.Prelude.{◌≡◌};
 ghost use Rattle.one_run.specs.One.{EachPartIsAFront, EachRunIsOne};
 ghost use Rattle.joined_nodes.specs.Laws.{NodesStand};
 ghost use Rattle.joined_ports.specs.Poured.{PouredStand};
 ghost use Rattle.node_cli.specs.Answered.{EachInputHasOneAnswer, EachOutsideHasOneAnswer, IsAnswered};
-ghost use Rattle.node_cli.specs.Command.{DoesNode, FitsNode, HasCauses, is_one, status_of};
+ghost use Rattle.node_commands.specs.Command.{DoesNode, FitsNode, HasCauses, is_one};
 ghost use Rattle.node_cli.specs.Logged.{LogTellsOwn, TextIsBounded};
 ghost use Rattle.node_connections.specs.Connections.{ConnectionsAreInOrder};
 ghost use Rattle.node_run.specs.Settled.{SettingsAreTheLast};
 ghost use Rattle.running_line.specs.Reading.{Behind};
 
-use crate::settings_file::{FileError, read_file};
 use line_base::Words;
 use line_outside::{Clock, Ports, Sink, Source};
-use node_run::{NodeStatus, run_node};
-use node_settings::{SettingsError, read_settings};
+use node_commands::run_named;
+use node_run::NodeStatus;
 use std::alloc::Global;
 
 /// The program `node`: runs the machine that a settings file describes.
@@ -77,43 +75,4 @@ pub fn node_main<S: Source, P: Ports, C: Clock, K: Sink>(
     joined_nodes::laws::woven_nodes_run_behind_the_reading();
     joined_ports::laws::what_carries_bytes_in_order_is_enough();
     run_named(alloc, words, file, ports, clock, log)
-}
-
-/// Runs the machine whose settings stand in the file that the one word names.
-fn run_named<S: Source, P: Ports, C: Clock, K: Sink>(
-    alloc: Global,
-    words: &Words,
-    file: &mut S,
-    ports: &mut P,
-    clock: &mut C,
-    log: &mut K,
-) -> NodeStatus
-    ensures does { DoesNode (is_one words.now) (S.left file.old) (C.moment clock.old)
-        (P.given ports.old) (P.given ports.new) (K.contents log.old) (K.contents log.new) result }
-    ensures fits { FitsNode (is_one words.now) result }
-    ensures causes { HasCauses result (S.faults file.old) (S.faults file.new) (P.faults ports.old)
-        (P.faults ports.new) (K.faults log.old) (K.faults log.new) }
-{
-    if words.list().len() != 1 {
-        return NodeStatus::Usage;
-    }
-    let bytes = match read_file(alloc, file) {
-        Ok(bytes) => bytes,
-        Err(FileError::Fault) => return NodeStatus::ReadFault,
-        Err(FileError::Memory) => return NodeStatus::Memory,
-    };
-    match read_settings(alloc, bytes.as_slice()) {
-        Ok(settings) => run_node(alloc, settings, ports, clock, log),
-        Err(error) => status_of(error),
-    }
-}
-
-/// How the program ends where the settings could not be read.
-pub fn status_of(error: SettingsError) -> NodeStatus
-    ensures { result ≡ status_of error }
-{
-    match error {
-        SettingsError::Refused(key, why) => NodeStatus::ConfigRefused(key, why),
-        SettingsError::Memory => NodeStatus::Memory,
-    }
 }

@@ -27,10 +27,11 @@ use Rattle.node_core.specs.declared.act.Deed.{Deed}
 use Rattle.node_core.specs.declared.act.Deed.TheVariants as deeds
 use Rattle.node_core.specs.declared.act.Setting.TheVariants as settings
 use Rattle.report_ledger.specs.Asked.{IsAsked, deed_of_id, IsAskedForOn, LaneReportTellsStarts, OpensWereAskedOn, gap_told_on, line_tells_on, placed_on, told_at_on}
-use Rattle.report_ledger.specs.Ledgers.{AreUnnumbered, honest_on}
+use Rattle.report_lines.specs.Lines.{AreUnnumbered, ReportLine, lines_in}
+use Rattle.report_ledger.specs.Ledgers.{honest_on}
 use Rattle.report_ledger.specs.Places.{number_of}
-use Rattle.report_ledger.specs.Proper.{IsProperHappening, ArePointsProper, IsProperOn}
-use Rattle.report_ledger.specs.ReportLines.{ReportLine, lines_in, vouched}
+use Rattle.report_lines.specs.Proper.{IsProperHappening, ArePointsProper, IsProperOn}
+use Rattle.report_ledger.specs.ReportLines.{vouched}
 use Rattle.report_ledger.proofs.Alone.{run_alone}
 use Rattle.report_ledger.proofs.Deeds.{id_read}
 use Rattle.report_ledger.proofs.GapDeeds.{above_is, below_is, deeds_append, neither, opens_is}

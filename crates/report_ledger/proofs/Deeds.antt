@@ -34,7 +34,7 @@ use Rattle.one_standing.specs.Replay.{deeds_at as deeds_of_act, deeds_at_side, d
 use Rattle.running_logs.proofs.LineTexts.{cut_spaced}
 use Rattle.report_ledger.specs.Deeds.{deeds_in, done_on, lane_deeds_of, lane_deeds_told, moved, moved_from, moved_to}
 use Rattle.report_ledger.specs.Places.{number_of}
-use Rattle.report_ledger.specs.Proper.{IsProperHappening, GoesToALane, IsProperOn}
+use Rattle.report_lines.specs.Proper.{IsProperHappening, GoesToALane, IsProperOn}
 use Rattle.report_ledger.specs.ReportLines.{deed_at, replaced_by, tells_lie}
 use Rattle.report_ledger.proofs.Coming.{AreTold, IsNoComing}
 use Rattle.report_ledger.proofs.Lines.{lines_told, text_of}

@@ -2,8 +2,7 @@
 use Rattle.std.proofs.Common.{◌≡◌, ◌∙◌, sym, ap, refl, subst, ℕ, ◌==◌, ◌&&◌, Bool, true, false, List, [], ◌∷◌, ◌++◌, Option, IfSome, Some, None, if◌then◌else◌}
 use Rattle.std.proofs.lemmas.Bool.{eq-eqb}
 use Rattle.report_ledger.specs.Fronts.{are_all, is_same, last_number, told_whole}
-use Rattle.report_ledger.specs.Ledgers.{AreUnnumbered}
-use Rattle.report_ledger.specs.ReportLines.{ReportLine, line_of, lines_behind}
+use Rattle.report_lines.specs.Lines.{AreUnnumbered, ReportLine, line_of, lines_behind}
 
 -- ---- the lines of a front are the first of the whole
 

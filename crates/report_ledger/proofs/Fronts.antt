@@ -12,9 +12,9 @@ use Rattle.line_lanes.specs.Parts.{IsLanePlay, IsLaneRun, LanePart, LanePoint, a
 use Rattle.line_lanes.specs.Views.{lanes_text}
 use Rattle.line_lanes.proofs.ScriptRuns.{EndsLast, line-lines, parts-end, points-append, run-short}
 use Rattle.report_ledger.specs.Fronts.{are_all, is_same, last_number, told_whole, LaneFrontsTellLedgers, LinesTellLane}
-use Rattle.report_ledger.specs.Ledgers.{AreUnnumbered, LaneReportTellsLedger, TellsLaneLedger, honest_on}
-use Rattle.report_ledger.specs.Proper.{ArePointsProper}
-use Rattle.report_ledger.specs.ReportLines.{ReportLine, lines_in}
+use Rattle.report_lines.specs.Lines.{AreUnnumbered, ReportLine, lines_in}
+use Rattle.report_ledger.specs.Ledgers.{LaneReportTellsLedger, TellsLaneLedger, honest_on}
+use Rattle.report_lines.specs.Proper.{ArePointsProper}
 use Rattle.report_ledger.specs.Standings.{LaneReportTellsStandings, TellsLaneStandings}
 use Rattle.report_ledger.proofs.Alone.{run_alone}
 use Rattle.report_ledger.proofs.FrontLines.{Split, beyond, last_behind, lines_front, none_left, same_self, split, tail_last, tail_other, within}

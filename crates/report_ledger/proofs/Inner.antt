@@ -27,7 +27,7 @@ use Rattle.node_core.specs.declared.act.Setting.{Setting}
 use Rattle.node_core.specs.declared.act.Setting.TheVariants as settings
 use Rattle.node_core.specs.declared.act.Signal.{Signal}
 use Rattle.node_core.specs.declared.act.Signal.TheVariants as signals
-use Rattle.report_ledger.specs.Proper.{IsProperHappening}
+use Rattle.report_lines.specs.Proper.{IsProperHappening}
 use Rattle.report_ledger.proofs.Words.{solid_place}
 
 -- ---- words

@@ -20,9 +20,10 @@ use Rattle.line_lanes.specs.Views.{has_lie_on, lanes_text, tells_lie_on}
 use Rattle.line_lanes.proofs.ScriptRuns.{run-short}
 use Rattle.line_lanes.proofs.Together.{none_track}
 use Rattle.report_ledger.specs.Deeds.{lane_deeds_at, lane_deeds_in_report, lane_deeds_told}
-use Rattle.report_ledger.specs.Ledgers.{AreUnnumbered, LaneReportTellsLedger, honest_on}
-use Rattle.report_ledger.specs.Proper.{ArePointsProper, IsProperOn}
-use Rattle.report_ledger.specs.ReportLines.{ReportLine, lines_in, vouched}
+use Rattle.report_lines.specs.Lines.{AreUnnumbered, ReportLine, lines_in}
+use Rattle.report_ledger.specs.Ledgers.{LaneReportTellsLedger, honest_on}
+use Rattle.report_lines.specs.Proper.{ArePointsProper, IsProperOn}
+use Rattle.report_ledger.specs.ReportLines.{vouched}
 use Rattle.report_ledger.proofs.Alone.{run_alone}
 use Rattle.report_ledger.proofs.Coming.{AreAllTold, run_told}
 use Rattle.report_ledger.proofs.Deeds.{told_deeds}

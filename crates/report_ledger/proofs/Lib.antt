@@ -17,4 +17,3 @@ pub mod Standings
 pub mod FrontLines
 pub mod Fronts
 pub mod Row
-pub mod ProperOn

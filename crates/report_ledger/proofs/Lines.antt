@@ -1,10 +1,9 @@
 -- The bytes of a report over several lanes are cut into the lines of its happenings.
-use Rattle.std.proofs.Common.{◌≡◌, ◌∙◌, sym, ap, ℕ, ◌+◌, ◌<◌, ◌^◌, ◌==◌, Bool, List, [], ◌∷◌, ◌++◌, Option, Some, None, append_assoc, append-nil, arith, decimal, if◌then◌else◌, refl, codes}
-use Rattle.std.proofs.lemmas.Bool.{and_parts, not-true}
-use Rattle.std.specs.List.{list_all, AllByRecursion}
+use Rattle.std.proofs.Common.{◌≡◌, ◌∙◌, sym, ap, ℕ, ◌+◌, ◌<◌, ◌^◌, Bool, List, [], ◌∷◌, ◌++◌, Option, Some, None, append_assoc, arith, decimal, if◌then◌else◌, refl, codes}
+use Rattle.std.specs.List.{AllByRecursion}
 use Rattle.line_base.specs.Number.{value_of}
 use Rattle.machine_log.proofs.Inner.{inner, spaced}
-use Rattle.machine_log.proofs.Solid.{is_inner, inner_decimal, solid_decimal}
+use Rattle.machine_log.proofs.Solid.{inner_decimal, solid_decimal}
 use Rattle.running_logs.proofs.LineTexts.{number_is, value_is}
 use Rattle.std.proofs.lemmas.List.Elements.{recursion_from_All}
 use Rattle.line_check.specs.Words.{behind, first_of}
@@ -14,8 +13,9 @@ use Rattle.line_report.specs.declared.happening.LaneHappening.{LaneHappening}
 use Rattle.line_lanes.specs.Lanes.{Lanes, lines_of}
 use Rattle.line_lanes.specs.Parts.{IsShort, LanePoint}
 use Rattle.line_lanes.specs.Views.{lanes_text}
-use Rattle.report_ledger.specs.Proper.{ArePointsProper, IsProperOn}
-use Rattle.report_ledger.specs.ReportLines.{ReportLine, line_of, lines_behind, number_in, lines_in}
+use Rattle.report_lines.specs.Proper.{ArePointsProper, IsProperOn}
+use Rattle.report_lines.proofs.Lines.{line_read}
+use Rattle.report_lines.specs.Lines.{ReportLine, line_of, number_in, lines_in}
 use Rattle.report_ledger.proofs.Inner.{inner_happening}
 use Rattle.report_ledger.proofs.Words.{cut_solid}
 
@@ -23,14 +23,6 @@ use Rattle.report_ledger.proofs.Words.{cut_solid}
 
 abbrev pub line_with : Option ℕ → List ℕ → ReportLine
 line_with number text = record { number = number; text = text }
-
-pub line_read : (front text rest : List ℕ) → inner text → lines_behind front (text ++ (10 ∷ rest)) ≡ line_of (front ++ text) ∷ lines_behind [] rest
-line_read front [] rest h = ap (λ (l : List ℕ). line_of l ∷ lines_behind [] rest) (sym (append-nil front))
-line_read front (b ∷ text) rest h =
-    let parts = and_parts (is_inner b) (list_all is_inner text) h in
-    ap (λ (t : Bool). if t then line_of front ∷ lines_behind [] (text ++ (10 ∷ rest)) else lines_behind (front ++ (b ∷ [])) (text ++ (10 ∷ rest))) (not-true (b == 10) parts.0)
-    ∙ line_read (front ++ (b ∷ [])) text rest parts.1
-    ∙ ap (λ (l : List ℕ). line_of l ∷ lines_behind [] rest) (append_assoc front (b ∷ []) text)
 
 pub number_read : (number : ℕ) → number < 2 ^ 32 → number_in (decimal number) ≡ Some number
 number_read number small =

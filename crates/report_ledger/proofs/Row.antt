@@ -10,10 +10,11 @@ use Rattle.line_check.specs.declared.kind.ExitDeed.TheVariants as exits
 use Rattle.standings.specs.declared.deed.Deed.{Deed}
 use Rattle.standings.specs.declared.deed.Deed.TheVariants.{Inserts}
 use Rattle.report_ledger.specs.Deeds.{lane_deeds_in_report, lane_deeds_told, moved}
-use Rattle.report_ledger.specs.ReportLines.{ReportLine, line_of, lines_in, vouched}
+use Rattle.report_lines.specs.Lines.{ReportLine, line_of, lines_in}
+use Rattle.report_ledger.specs.ReportLines.{vouched}
 use Rattle.report_ledger.specs.Row.{lines_of, IsReadOffTheRow, row}
 use Rattle.report_ledger.proofs.Deeds.{id_read}
-use Rattle.report_ledger.proofs.Lines.{line_read}
+use Rattle.report_lines.proofs.Lines.{line_read}
 
 pub one_read : (words : List ℕ) (id : ℕ) (rest : List ℕ) → inner words → lines_in ((words ++ id_text id ++ codes "\n") ++ rest) ≡ line_of (words ++ id_text id) ∷ lines_in rest
 one_read words id rest w =

@@ -33,10 +33,11 @@ use Rattle.standings.specs.Marks.{has_id}
 use Rattle.standings.specs.Standing.{Place}
 use Rattle.standings.specs.declared.mark.Mark.{Mark}
 use Rattle.standings.specs.declared.standing.Standing.TheVariants as places
-use Rattle.report_ledger.specs.Ledgers.{AreUnnumbered, LaneReportTellsLedger, TellsLaneLedger, honest_on, lane_ledger_in}
+use Rattle.report_lines.specs.Lines.{AreUnnumbered, ReportLine, lines_in}
+use Rattle.report_ledger.specs.Ledgers.{LaneReportTellsLedger, TellsLaneLedger, honest_on, lane_ledger_in}
 use Rattle.report_ledger.specs.Places.{lane_of, number_of}
-use Rattle.report_ledger.specs.Proper.{ArePointsProper, IsProperOn}
-use Rattle.report_ledger.specs.ReportLines.{ReportLine, lines_in, vouched}
+use Rattle.report_lines.specs.Proper.{ArePointsProper, IsProperOn}
+use Rattle.report_ledger.specs.ReportLines.{vouched}
 use Rattle.report_ledger.specs.Standings.{is_id, LaneReportTellsStandings, line_stands_on, standing_after_on, standing_from_on, standing_there, stands_at_on}
 use Rattle.report_ledger.proofs.Alone.{run_alone}
 use Rattle.report_ledger.proofs.Deeds.{id_read}

@@ -7,8 +7,9 @@ use Rattle.line_step.specs.Lies.{is_lie}
 use Rattle.line_lanes.specs.Lanes.{Lanes, lines_of}
 use Rattle.line_lanes.specs.Parts.{LanePoint}
 use Rattle.line_lanes.specs.Views.{tells_lie_on}
-use Rattle.report_ledger.specs.Ledgers.{AreUnnumbered, honest_on}
-use Rattle.report_ledger.specs.ReportLines.{ReportLine, has_number, lies_at, tells_lie, vouched}
+use Rattle.report_lines.specs.Lines.{AreUnnumbered, ReportLine}
+use Rattle.report_ledger.specs.Ledgers.{honest_on}
+use Rattle.report_ledger.specs.ReportLines.{has_number, lies_at, tells_lie, vouched}
 use Rattle.report_ledger.proofs.Deeds.{happening_lies}
 use Rattle.report_ledger.proofs.Lines.{line_with, lines_told, run_lines, text_of}
 

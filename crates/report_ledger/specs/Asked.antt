@@ -14,10 +14,10 @@ use Rattle.line_lanes.specs.Along.{IsFitLaneLine}
 use Rattle.line_lanes.specs.Lanes.{no_lanes}
 use Rattle.line_lanes.specs.Parts.{IsLaneRun, LanePoint, all_points}
 use Rattle.line_lanes.specs.Views.{lanes_text}
-use Rattle.report_ledger.specs.Ledgers.{AreUnnumbered}
+use Rattle.report_lines.specs.Lines.{AreUnnumbered, ReportLine, lines_in}
 use Rattle.report_ledger.specs.Places.{lane_of, number_of}
-use Rattle.report_ledger.specs.Proper.{ArePointsProper}
-use Rattle.report_ledger.specs.ReportLines.{ReportLine, lines_in, vouched}
+use Rattle.report_lines.specs.Proper.{ArePointsProper}
+use Rattle.report_ledger.specs.ReportLines.{vouched}
 
 -- ---- what a text tells of a gap, by its first word
 

@@ -8,7 +8,8 @@ use Rattle.line_check.specs.declared.kind.Kind.{Kind}
 use Rattle.line_check.specs.LogLine.{id_of, kind_of}
 use Rattle.line_check.specs.Words.{behind, cut_at_space, first_word}
 use Rattle.report_ledger.specs.Places.{lane_of, number_of}
-use Rattle.report_ledger.specs.ReportLines.{ReportLine, deed_at, lines_in, vouched}
+use Rattle.report_lines.specs.Lines.{ReportLine, lines_in}
+use Rattle.report_ledger.specs.ReportLines.{deed_at, vouched}
 
 -- what is done at a place, where that is on this lane
 abbrev pub done_on : ℕ → List ℕ → List Deed → List Deed

@@ -12,9 +12,10 @@ use Rattle.line_lanes.specs.Lanes.{Lanes, no_lanes, track}
 use Rattle.line_lanes.specs.Parts.{IsLaneRun, LanePoint, all_points, state_behind}
 use Rattle.line_lanes.specs.Views.{lanes_text}
 use Rattle.report_ledger.specs.Deeds.{lane_deeds_told}
-use Rattle.report_ledger.specs.Ledgers.{AreUnnumbered, honest_on}
-use Rattle.report_ledger.specs.Proper.{ArePointsProper}
-use Rattle.report_ledger.specs.ReportLines.{ReportLine, lines_in, vouched}
+use Rattle.report_lines.specs.Lines.{AreUnnumbered, ReportLine, lines_in}
+use Rattle.report_ledger.specs.Ledgers.{honest_on}
+use Rattle.report_lines.specs.Proper.{ArePointsProper}
+use Rattle.report_ledger.specs.ReportLines.{vouched}
 use Rattle.report_ledger.specs.Standings.{lane_standing_told, standing_there}
 
 -- ---- the lines of the last number

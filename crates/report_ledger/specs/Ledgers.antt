@@ -1,7 +1,7 @@
 -- THE LEDGER OF EACH LANE in a report's bytes: whoever reads the deeds of a lane off the text alone,
 -- one after the other, finds each legal in the ledger of those before it, and that ledger tells
 -- where each record on the lane is.
-use Rattle.std.specs.Prelude.{◌≡◌, List, [], ◌∷◌, None, ℕ, ◌≤◌, ◌++◌, if◌then◌else◌, length}
+use Rattle.std.specs.Prelude.{List, [], ◌∷◌, ℕ, ◌≤◌, ◌++◌, if◌then◌else◌, length}
 use Rattle.std.specs.List.{AllByRecursion}
 use Rattle.line_script.specs.declared.line.LaneLine.{LaneLine}
 use Rattle.standings.specs.Ledger.{AreLegal, Ledger, empty_ledger, ledger_after_all}
@@ -11,13 +11,8 @@ use Rattle.line_lanes.specs.Lanes.{Lanes, no_lanes, track}
 use Rattle.line_lanes.specs.Parts.{IsLaneRun, LanePoint, all_points, state_behind}
 use Rattle.line_lanes.specs.Views.{lanes_text, tells_lie_on}
 use Rattle.report_ledger.specs.Deeds.{lane_deeds_in_report}
-use Rattle.report_ledger.specs.Proper.{ArePointsProper}
-use Rattle.report_ledger.specs.ReportLines.{ReportLine, lines_in}
-
--- none of these lines has a number: the last line of a report
-abbrev pub AreUnnumbered : List ReportLine → Type 0
-AreUnnumbered [] = Unit {0}
-AreUnnumbered (line ∷ lines) = (line.number ≡ None) × AreUnnumbered lines
+use Rattle.report_lines.specs.Proper.{ArePointsProper}
+use Rattle.report_lines.specs.Lines.{AreUnnumbered, lines_in}
 
 -- the points of a run before the first line that told what was not so, on whichever lane
 abbrev pub honest_on : List LanePoint → List LanePoint

@@ -1,7 +1,6 @@
 pub mod Places
 pub mod ReportLines
 pub mod Deeds
-pub mod Proper
 pub mod Ledgers
 pub mod Asked
 pub mod Standings

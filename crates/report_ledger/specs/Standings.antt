@@ -15,10 +15,11 @@ use Rattle.line_lanes.specs.Lanes.{no_lanes}
 use Rattle.line_lanes.specs.Parts.{IsLaneRun, LanePoint, all_points}
 use Rattle.line_lanes.specs.Shown.{LanePlace}
 use Rattle.line_lanes.specs.Views.{lanes_text}
-use Rattle.report_ledger.specs.Ledgers.{AreUnnumbered, lane_ledger_in}
+use Rattle.report_lines.specs.Lines.{AreUnnumbered, ReportLine, lines_in}
+use Rattle.report_ledger.specs.Ledgers.{lane_ledger_in}
 use Rattle.report_ledger.specs.Places.{lane_of, number_of}
-use Rattle.report_ledger.specs.Proper.{ArePointsProper}
-use Rattle.report_ledger.specs.ReportLines.{ReportLine, lines_in, vouched}
+use Rattle.report_lines.specs.Proper.{ArePointsProper}
+use Rattle.report_ledger.specs.ReportLines.{vouched}
 
 -- ---- the standing that is told of an id
 

@@ -3,6 +3,3 @@
 #![tactic(auto)]
 
 pub mod laws;
-mod proper;
-
-pub use proper::lanes_are_proper;

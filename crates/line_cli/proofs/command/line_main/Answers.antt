@@ -1,13 +1,25 @@
 use Rattle.line_step.proofs.FloorLaws.{ids_stay}
-use Rattle.line_cli.specs.Command.{is_check, is_read, is_run}
-use Rattle.line_cli.specs.Making.{made_number}
-use Rattle.line_cli.proofs.AnsweredOnce.{answers_so}
-use Rattle.line_cli.proofs.FitScript.{scripts_are_fit}
-use Rattle.line_cli.proofs.Fronts.{has_one_report}
+use Rattle.line_commands.specs.Command.{is_check, is_read, is_run}
+use Rattle.line_commands.specs.Making.{made_number}
+use Rattle.line_commands.proofs.FitScript.{scripts_are_fit}
+use Rattle.line_commands.proofs.Fronts.{has_one_report}
 use Rattle.line_cli.proofs.LedgerTold.{fronts_tell, reports_stand, reports_start, reports_tell}
 use Rattle.line_cli.proofs.MadeOnce.{has_one_make_text}
-use Rattle.line_cli.proofs.ReadFronts.{has_one_read_text}
+use Rattle.stream_text.proofs.ReadFronts.{has_one_read_text}
+use Rattle.line_cli.proofs.Spared.{spares}
 use Rattle.line_cli.proofs.command.line_main.Goals as goal
+
+pub returns-clause-does : goal.returns-clause-does
+returns-clause-does g c = c.do_words.ensures.does
+
+pub returns-clause-fits : goal.returns-clause-fits
+returns-clause-fits g c = c.do_words.ensures.fits
+
+pub returns-clause-causes : goal.returns-clause-causes
+returns-clause-causes g c = c.do_words.ensures.causes
+
+pub returns-clause-complete : goal.returns-clause-complete
+returns-clause-complete g c = c.do_words.ensures.complete
 
 pub returns-clause-report : goal.returns-clause-report
 returns-clause-report g c = has_one_report c.each_script_on_lanes_has_a_run.ensures c.one_report.ensures
@@ -105,11 +117,11 @@ returns-clause-steps g c = c.an_undisturbed_handover_ends_within_twelve_link_ste
 pub returns-clause-goes_on : goal.returns-clause-goes_on
 returns-clause-goes_on g c = c.whoever_goes_on_ends_it.ensures
 
-pub returns-clause-complete : goal.returns-clause-complete
-returns-clause-complete g c =
-    answers_so (is_run c.args.words.now) (is_read c.args.words.now) (is_check c.args.words.now) (made_number c.args.words.now) (g.S.Source.left c.args.script.now) (g.S.Source.left c.do_words.new.script)
-    (g.K.Sink.contents c.args.report.now) (g.K.Sink.contents c.do_words.new.report) (g.S.Source.faults c.args.script.now) (g.S.Source.faults c.do_words.new.script) (g.K.Sink.faults c.args.report.now)
-    (g.K.Sink.faults c.do_words.new.report) c.do_words.result c.do_words.ensures.does c.do_words.ensures.causes
+pub returns-clause-right : goal.returns-clause-right
+returns-clause-right g c =
+    spares c.the_merged_log_of_a_run_that_reads_first_is_right.ensures.right c.the_merged_log_of_a_run_behind_the_reading_is_right.ensures
+    (is_run c.args.words.now) (is_read c.args.words.now) (is_check c.args.words.now) (made_number c.args.words.now) (g.S.Source.left c.args.script.now) (g.S.Source.left c.do_words.new.script)
+    (g.K.Sink.contents c.args.report.now) (g.K.Sink.contents c.do_words.new.report) (g.K.Sink.faults c.args.report.now) (g.K.Sink.faults c.do_words.new.report) c.do_words.result c.do_words.ensures.does
 
 pub returns-clause-determined : goal.returns-clause-determined
 returns-clause-determined g c = c.each_input_has_one_answer.ensures

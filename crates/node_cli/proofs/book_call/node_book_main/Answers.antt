@@ -1,7 +1,16 @@
-use Rattle.node_cli.specs.Command.{is_one}
-use Rattle.node_cli.proofs.Beginning.{begin_again}
+use Rattle.node_commands.specs.Command.{is_one}
+use Rattle.node_commands.proofs.Beginning.{begin_again}
 use Rattle.node_cli.proofs.BookAnswering.{answers_so, one_book_answer}
 use Rattle.node_cli.proofs.book_call.node_book_main.Goals as goal
+
+pub returns-clause-does : goal.returns-clause-does
+returns-clause-does g c = c.run_with_book.ensures.does
+
+pub returns-clause-fits : goal.returns-clause-fits
+returns-clause-fits g c = c.run_with_book.ensures.fits
+
+pub returns-clause-causes : goal.returns-clause-causes
+returns-clause-causes g c = c.run_with_book.ensures.causes
 
 pub returns-clause-one_book : goal.returns-clause-one_book
 returns-clause-one_book g c = c.a_book_has_one_answer.ensures
@@ -16,7 +25,7 @@ pub returns-clause-bounded : goal.returns-clause-bounded
 returns-clause-bounded g c = c.too_much_text_closes_a_way.ensures
 
 pub returns-clause-complete : goal.returns-clause-complete
-returns-clause-complete g c = answers_so (is_one c.args.words.now) _ _ _ _ _ _ _ _ _ _ _ _ _ _ c.book_named.ensures.does c.book_named.ensures.causes
+returns-clause-complete g c = answers_so (is_one c.args.words.now) _ _ _ _ _ _ _ _ _ _ _ _ _ _ c.run_with_book.ensures.does c.run_with_book.ensures.causes
 
 pub returns-clause-determined : goal.returns-clause-determined
 returns-clause-determined g c = one_book_answer c.a_book_has_one_answer.ensures c.a_run_over_a_book_is_one.ensures

@@ -1,6 +1,15 @@
-use Rattle.node_cli.specs.Command.{is_one}
+use Rattle.node_commands.specs.Command.{is_one}
 use Rattle.node_cli.proofs.Answering.{answers_so, one_answer, outside_answers}
 use Rattle.node_cli.proofs.main_call.node_main.Goals as goal
+
+pub returns-clause-does : goal.returns-clause-does
+returns-clause-does g c = c.run_named.ensures.does
+
+pub returns-clause-fits : goal.returns-clause-fits
+returns-clause-fits g c = c.run_named.ensures.fits
+
+pub returns-clause-causes : goal.returns-clause-causes
+returns-clause-causes g c = c.run_named.ensures.causes
 
 pub returns-clause-owns : goal.returns-clause-owns
 returns-clause-owns g c = c.what_a_machine_owns_is_read_off_its_log.ensures

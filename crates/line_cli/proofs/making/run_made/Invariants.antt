@@ -1,9 +1,0 @@
-use Rattle.std.proofs.Common.{◌≡◌, false}
-use Rattle.line_cli.specs.Making.{IsFolding}
-use Rattle.line_cli.proofs.making.run_made.Given as goal
-
-abbrev pub invariant-loop-line : goal.invariant-loop-line
-invariant-loop-line l = record {
-  unspent : l.run.spent ≡ false;
-  folding : IsFolding l.yielded l.run l.fold l.told.items;
-}

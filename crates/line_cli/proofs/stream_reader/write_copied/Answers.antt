@@ -1,5 +1,0 @@
-use Rattle.line_cli.proofs.Copied.{copies}
-use Rattle.line_cli.proofs.stream_reader.write_copied.Goals as goal
-
-pub returns : goal.returns
-returns c = copies c.args.number c.args.frame.now c.args.to.now.items c.write_entry.new.to.items c.write_entry.result c.requires c.write_entry.ensures

@@ -1,0 +1,9 @@
+pub mod LinesLemmas
+pub mod Steps
+pub mod Folding
+pub mod Fronts
+pub mod LastLine
+pub mod Going
+pub mod Checked
+pub mod FitScript
+pub mod AnsweredOnce

@@ -1,0 +1,12 @@
+pub mod Texts
+pub mod Script
+pub mod Report
+pub mod LineEnds
+pub mod Stops
+pub mod Reader
+pub mod Making
+pub mod Command
+pub mod Checking
+pub mod Ending
+pub mod Premises
+pub mod Answered

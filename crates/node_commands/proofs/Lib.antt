@@ -1,0 +1,4 @@
+pub mod Bounds
+pub mod Files
+pub mod Doing
+pub mod Beginning

@@ -1,0 +1,4 @@
+pub mod Command
+pub mod Books
+pub mod Ends
+pub mod BookEnds

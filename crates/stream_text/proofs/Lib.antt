@@ -1,0 +1,4 @@
+pub mod ReadFrames
+pub mod ReadFronts
+pub mod ReadSteps
+pub mod Copied

@@ -1,0 +1,3 @@
+pub mod ReadText
+pub mod Stream
+pub mod StreamReader
