@@ -58,17 +58,20 @@ def sections(name):
 
 
 def case_reports():
-    for name in ("line_cli_cases", "line_replay_cases"):
-        for number, (title, text) in enumerate(sections(f"{name}/stdout")):
-            body = text.split("\n--- ")[0] + "\n"
-            if title == "line run" and re.search(r"^(end lines=|refused \d)", body, re.M):
-                yield f"{name} {number}", body.encode()
+    for number, (title, text) in enumerate(sections("line_cli_cases/stdout")):
+        body = text.split("\n--- ")[0] + "\n"
+        if title == "line run" and re.search(r"^(end lines=|refused \d)", body, re.M):
+            yield f"line_cli_cases {number}", body.encode()
+    for (title, script), (_, text) in zip(sections("line_engine_cases/stdin"), sections("line_engine_cases/stdout")):
+        # what is done by `@` isn't told, and a report ends at a line that is refused
+        if not re.search(r"^@", script, re.M) and not re.search(r"^\d+ refused: ", text, re.M):
+            yield f"line_engine_cases {title}", re.sub(r"^\? .*\n", "", text, flags=re.M).encode()
 
 
 def case_logs():
-    for number, (_, text) in enumerate(sections("node_cli_cases/stdout")):
+    for number, (title, text) in enumerate(sections("node_cli_cases/stdout")):
         lines = [line for line in text.split("\n") if re.match(r"[0-9]+ ", line)]
-        if lines:
+        if lines and not title.startswith("at a limit: "):
             yield f"node_cli_cases {number}", ("\n".join(lines) + "\n").encode()
 
 

@@ -79,6 +79,14 @@ impl Port {
         let name = profile.machine.copy(alloc)?;
         let number = profile.number;
         let made = profile.used;
+        let channel = Channel::new(alloc)?;
+        let node = match Node::new(alloc, profile) {
+            Ok(node) => node,
+            Err(Memory) => {
+                drop(channel);
+                return Err(Memory);
+            }
+        };
         Ok(Port {
             alloc,
             spent: false,
@@ -86,11 +94,11 @@ impl Port {
             number,
             made,
             steps: 0,
-            node: Node::new(alloc, profile)?,
+            node,
             entry: Outgoing::new(alloc),
             exit: Outgoing::new(alloc),
             supervisor: Outgoing::new(alloc),
-            channel: Channel::new(alloc)?,
+            channel,
             refusal: Vec::new(alloc),
             levels: Levels::off(),
             last: Outputs::new(alloc),

@@ -33,7 +33,11 @@ fn with_machine(
     to: &mut Vec<u8>,
 ) -> io::Result<()> {
     match machine(alloc, 1, b"M1", 0, false) {
-        Ok(mut node) => give(alloc, &mut node, side, steps, message, to),
+        Ok(mut node) => {
+            let told = give(alloc, &mut node, side, steps, message, to);
+            drop(node);
+            told
+        }
         Err(Memory) => Err(io::Error::from(ErrorKind::OutOfMemory)),
     }
 }

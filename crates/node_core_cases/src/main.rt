@@ -45,14 +45,22 @@ fn tell_line(alloc: Global, line: &str, to: &mut Vec<u8>) -> io::Result<()> {
 fn tell_case(alloc: Global, case: &str, to: &mut Vec<u8>) -> io::Result<()> {
     let used = used_before(case);
     match machine(alloc, 1, b"M1", used, is_bridge(case)) {
-        Ok(mut first) => with_first(alloc, &mut first, case, to),
+        Ok(mut first) => {
+            let told = with_first(alloc, &mut first, case, to);
+            drop(first);
+            told
+        }
         Err(Memory) => Err(io::Error::from(ErrorKind::OutOfMemory)),
     }
 }
 
 fn with_first(alloc: Global, first: &mut Node, case: &str, to: &mut Vec<u8>) -> io::Result<()> {
     match machine(alloc, 2, b"M2", 0, false) {
-        Ok(mut second) => met::tell_after(alloc, first, &mut second, case, to),
+        Ok(mut second) => {
+            let told = met::tell_after(alloc, first, &mut second, case, to);
+            drop(second);
+            told
+        }
         Err(Memory) => Err(io::Error::from(ErrorKind::OutOfMemory)),
     }
 }

@@ -9,13 +9,12 @@ ghost use Rattle.node_run.specs.Moving.{IsEndCaused, IsRunEnd};
 ghost use Rattle.line_outside.specs.Faults.{Rose};
 ghost use Rattle.node_run.specs.State.{resumed};
 ghost use Rattle.node_run.specs.Told.{neighbours_of, rules_of};
-ghost use Rattle.supervised_end.specs.Channel.{no_session};
 ghost use Rattle.node_run.specs.declared.booked.Keeping.TheVariants as keepings;
 
 use crate::moves::{make_move, moment_of};
 use crate::place::Next;
 use crate::rules::Rules;
-use crate::run::Run;
+use crate::run::{Run, channels};
 use crate::running::ROOM_BYTES;
 use crate::status::NodeStatus;
 use book_keeper::{Keeper, Kept2};
@@ -25,7 +24,6 @@ use machine_log::Drives;
 use node_core::Node;
 use node_settings::Settings;
 use std::alloc::Global;
-use supervised_end::Channel;
 
 /// How many bytes a book has at most.
 pub const MOST_BOOK_BYTES: u64 = 1_073_741_824;
@@ -81,7 +79,10 @@ pub fn run_booked<P: Ports, C: Clock, K: Sink, B: Keeper>(
 {
     let mut room = match vec![in alloc; 0u8; ROOM_BYTES] {
         Ok(room) => room,
-        Err(_) => return BookedStatus::Node(NodeStatus::Memory),
+        Err(_) => {
+            drop(node);
+            return BookedStatus::Node(NodeStatus::Memory);
+        }
     };
     let mut run = match resumed_run(alloc, settings, node, drives) {
         Ok(run) => run,
@@ -102,7 +103,13 @@ fn resumed_run(alloc: Global, settings: Settings, node: Node, drives: Drives) ->
           told = [];
         }) }
 {
-    let (channel, config) = channels(alloc)?;
+    let (channel, config) = match channels(alloc) {
+        Ok(both) => both,
+        Err(Memory) => {
+            drop(node);
+            return Err(Memory);
+        }
+    };
     let Settings {
         identity,
         places: _,
@@ -125,15 +132,6 @@ fn resumed_run(alloc: Global, settings: Settings, node: Node, drives: Drives) ->
     let mut run = Run::new(alloc, rules, neighbours, node, channel, config);
     run.resume(drives);
     Ok(run)
-}
-
-/// What cuts the bytes of the supervisor's way and of the configuration service's.
-fn channels(alloc: Global) -> Result<(Channel, Channel), Memory>
-    ensures { IfOk result (λ both. (both.0 ≡ no_session) × (both.1 ≡ no_session)) }
-{
-    let channel = Channel::new(alloc)?;
-    let config = Channel::new(alloc)?;
-    Ok((channel, config))
 }
 
 /// Makes the moves of a run one after the other, until it ends.

@@ -1,4 +1,4 @@
-ghost use Rattle.std.specs.Prelude.{◌≡◌, [], OnOk};
+ghost use Rattle.std.specs.Prelude.{◌≡◌, [], IfOk, OnOk};
 ghost use Rattle.supervised_end.specs.Channel.{IsShort, no_session};
 ghost use Rattle.node_run.specs.Held.{HasFewLooks};
 ghost use Rattle.node_run.specs.State.{RunView, echoed, started, way_at, with_wire, refusal_text};
@@ -20,6 +20,15 @@ use node_core::Node;
 use std::alloc::Global;
 use std::marker::Model;
 use supervised_end::Channel;
+
+/// What cuts the bytes of the supervisor's way and of the configuration service's.
+pub(crate) fn channels(alloc: Global) -> Result<(Channel, Channel), Memory>
+    ensures { IfOk result (λ both. (both.0 ≡ no_session) × (both.1 ≡ no_session)) }
+{
+    let channel = Channel::new(alloc)?;
+    let config = Channel::new(alloc)?;
+    Ok((channel, config))
+}
 
 /// A text for a second connection, which is to be refused.
 #[derive(Drop)]

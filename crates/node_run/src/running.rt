@@ -8,14 +8,13 @@ ghost use Rattle.node_core.specs.Node.{new_node};
 use crate::moves::make_move;
 use crate::place::Next;
 use crate::rules::Rules;
-use crate::run::Run;
+use crate::run::{Run, channels};
 use crate::status::NodeStatus;
 use line_base::Memory;
 use line_outside::{Clock, Ports, Pushed, Sink, push_all};
 use node_core::{Node, NodeProfile};
 use node_settings::Settings;
 use std::alloc::Global;
-use supervised_end::Channel;
 
 /// How many bytes a poll takes at most.
 pub const ROOM_BYTES: usize = 4096;
@@ -90,8 +89,6 @@ fn new_run(alloc: Global, settings: Settings) -> Result<Run, Memory>
           told = [];
         }) }
 {
-    let channel = Channel::new(alloc)?;
-    let config = Channel::new(alloc)?;
     let Settings {
         identity,
         places,
@@ -120,6 +117,13 @@ fn new_run(alloc: Global, settings: Settings) -> Result<Run, Memory>
         bridge,
     };
     let node = Node::new(alloc, profile)?;
+    let (channel, config) = match channels(alloc) {
+        Ok(both) => both,
+        Err(Memory) => {
+            drop(node);
+            return Err(Memory);
+        }
+    };
     Ok(Run::new(alloc, rules, neighbours, node, channel, config))
 }
 

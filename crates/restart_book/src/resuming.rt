@@ -79,6 +79,9 @@ fn resume_once(alloc: Global, profile: NodeProfile, book: &[u8]) -> Result<Resum
             drives,
             whole,
         }),
-        Err(error) => Err(error),
+        Err(error) => {
+            drop(node);
+            Err(error)
+        }
     }
 }

@@ -6,8 +6,12 @@
 mod ends;
 mod floor;
 mod intake;
+mod link;
 mod outlet;
+mod query;
 mod session;
+mod signals;
+mod supervisory;
 mod words;
 
 use std::alloc::Global;
@@ -29,13 +33,21 @@ fn main(rt: HostRuntime) -> io::Result<()> {
 fn tell_case(alloc: Global, case: &str, to: &mut Vec<u8>) -> io::Result<()> {
     write!(to, "{case} = ")?;
     let (table, words) = case.split_once(' ').unwrap_or((case, ""));
-    match table {
-        "session" => session::tell(alloc, words, to)?,
-        "outlet" => outlet::tell(alloc, words, to)?,
-        "intake" => intake::tell(alloc, words, to)?,
-        "floor" => floor::tell(alloc, words, to)?,
-        "ends" => ends::tell(words, to)?,
-        _ => write!(to, "no case")?,
-    }
+    tell_answer(alloc, table, words, to)?;
     writeln!(to)
+}
+
+fn tell_answer(alloc: Global, table: &str, words: &str, to: &mut Vec<u8>) -> io::Result<()> {
+    match table {
+        "session" => session::tell(alloc, words, to),
+        "outlet" => outlet::tell(alloc, words, to),
+        "intake" => intake::tell(alloc, words, to),
+        "link" => link::tell(alloc, words, to),
+        "floor" => floor::tell(alloc, words, to),
+        "ends" => ends::tell(words, to),
+        "signals" => signals::tell(words, to),
+        "query" => query::tell(alloc, words, to),
+        "supervisory" => supervisory::tell(alloc, words, to),
+        _ => write!(to, "no case"),
+    }
 }

@@ -1,6 +1,6 @@
 //! What a link meets.
 
-use crate::told;
+use crate::link::told;
 use line_base::{Memory, Role};
 use line_link::{Link, Sent};
 use std::alloc::Global;
@@ -15,11 +15,11 @@ pub fn meet(alloc: Global, link: &mut Link, word: &str, to: &mut Vec<u8>) -> io:
         "connect" => connect(link, to),
         "cut" => {
             link.cut();
-            to.write_all(b" cut,")
+            to.write_all(b"cut,")
         }
         _ => match word.split_once(":") {
             Some((event, rest)) => meet_at(alloc, link, event, rest, to),
-            None => to.write_all(b" nothing,"),
+            None => to.write_all(b"nothing,"),
         },
     }
 }
@@ -27,7 +27,7 @@ pub fn meet(alloc: Global, link: &mut Link, word: &str, to: &mut Vec<u8>) -> io:
 fn connect(link: &mut Link, to: &mut Vec<u8>) -> io::Result<()> {
     match link.number(Role::Downstream) {
         None => told::connected(link.connect(), to),
-        Some(_) => to.write_all(b" connected,"),
+        Some(_) => to.write_all(b"connected,"),
     }
 }
 
@@ -49,13 +49,13 @@ fn meet_at(
     match event {
         "close" => {
             link.close(end);
-            to.write_all(b" closed,")
+            to.write_all(b"closed,")
         }
         "spoil" => spoil(link, end, to),
         "next" => next(link, end, value, to),
         "send" => told::sent(link.send(end, value.as_bytes()), to),
         "fill" => told::sent(fill(alloc, link, end, value), to),
-        _ => to.write_all(b" nothing,"),
+        _ => to.write_all(b"nothing,"),
     }
 }
 
@@ -71,7 +71,7 @@ fn spoil(link: &mut Link, end: Role, to: &mut Vec<u8>) -> io::Result<()> {
     if link.stands() {
         told::sent(link.spoil(end), to)
     } else {
-        to.write_all(b" not standing,")
+        to.write_all(b"not standing,")
     }
 }
 

@@ -1,15 +1,15 @@
 //! What a bridge answers.
 
-use crate::ends::{tell_edge, tell_level};
+use crate::signals::ends::{edge_word, level_word};
 use board_record::BoardId;
 use line_base::Quality;
 use smema_bridge::{Bridge, BridgeEdges, SegmentLine};
 use std::io;
 use std::io::Write;
 
-/// What the last call of a bridge answers, and its three views. The front board is 7; `touched`,
+/// Appends what the last call of a bridge answers, and its three views. The front board is 7; `touched`,
 /// `untouched` and `empty` say how it stands from then on.
-pub fn tell_bridge(case: &str, to: &mut Vec<u8>) -> io::Result<()> {
+pub fn tell(case: &str, to: &mut Vec<u8>) -> io::Result<()> {
     let mut bridge = Bridge::new();
     let mut is_there = true;
     let mut touched = false;
@@ -25,10 +25,10 @@ pub fn tell_bridge(case: &str, to: &mut Vec<u8>) -> io::Result<()> {
             }
         }
     }
-    write!(to, " wants")?;
-    tell_level(bridge.wants_in(), to)?;
-    tell_level(bridge.wants_out(), to)?;
-    tell_level(bridge.failed(), to)
+    let wants_in = level_word(bridge.wants_in());
+    let wants_out = level_word(bridge.wants_out());
+    let failed = level_word(bridge.failed());
+    write!(to, "wants {wants_in} {wants_out} {failed}")
 }
 
 fn call(
@@ -72,14 +72,15 @@ fn tell_board(board: Option<BoardId>, to: &mut Vec<u8>) -> io::Result<()> {
     match board {
         Some(id) => {
             let number = id.number();
-            write!(to, " marks {number}")
+            write!(to, "marks {number} ")
         }
-        None => write!(to, " marks nothing"),
+        None => write!(to, "marks nothing "),
     }
 }
 
 fn tell_edges(edges: BridgeEdges, to: &mut Vec<u8>) -> io::Result<()> {
-    tell_edge(edges.available, to)?;
-    tell_edge(edges.failed, to)?;
-    tell_edge(edges.ready, to)
+    let available = edge_word(edges.available);
+    let failed = edge_word(edges.failed);
+    let ready = edge_word(edges.ready);
+    write!(to, "{available} {failed} {ready} ")
 }

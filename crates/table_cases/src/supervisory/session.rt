@@ -1,6 +1,6 @@
 //! What a session does at its words.
 
-use crate::messages::message_of;
+use crate::supervisory::messages::message_of;
 use hermes_vertical::VerticalKind;
 use line_base::Text;
 use std::alloc::Global;

@@ -4,7 +4,7 @@ use smema_signals::{Edges, Giver, Levels, Taker};
 use std::io;
 use std::io::Write;
 
-/// The edges of the last call of a giver, and its levels.
+/// Appends the edges of the last call of a giver, and its levels.
 pub fn tell_giver(case: &str, to: &mut Vec<u8>) -> io::Result<()> {
     let mut giver = Giver::new();
     let mut last = Edges {
@@ -22,7 +22,7 @@ pub fn tell_giver(case: &str, to: &mut Vec<u8>) -> io::Result<()> {
     tell(last, giver.levels(), to)
 }
 
-/// The edges of the last call of a taker, and its levels.
+/// Appends the edges of the last call of a taker, and its levels.
 pub fn tell_taker(case: &str, to: &mut Vec<u8>) -> io::Result<()> {
     let mut taker = Taker::new();
     let mut last = Edges {
@@ -40,25 +40,22 @@ pub fn tell_taker(case: &str, to: &mut Vec<u8>) -> io::Result<()> {
 }
 
 fn tell(edges: Edges, levels: Levels, to: &mut Vec<u8>) -> io::Result<()> {
-    tell_edge(edges.first, to)?;
-    tell_edge(edges.second, to)?;
-    write!(to, " levels")?;
-    tell_level(levels.first, to)?;
-    tell_level(levels.second, to)
+    let first = edge_word(edges.first);
+    let second = edge_word(edges.second);
+    write!(to, "{first} {second} levels")?;
+    let first = level_word(levels.first);
+    let second = level_word(levels.second);
+    write!(to, " {first} {second}")
 }
 
 /// An edge as the level to which it leads, and `-` where there is none.
-pub fn tell_edge(edge: Option<bool>, to: &mut Vec<u8>) -> io::Result<()> {
+pub fn edge_word(edge: Option<bool>) -> &'static str {
     match edge {
-        Some(level) => tell_level(level, to),
-        None => write!(to, " -"),
+        Some(level) => level_word(level),
+        None => "-",
     }
 }
 
-pub fn tell_level(level: bool, to: &mut Vec<u8>) -> io::Result<()> {
-    if level {
-        write!(to, " on")
-    } else {
-        write!(to, " off")
-    }
+pub fn level_word(level: bool) -> &'static str {
+    if level { "on" } else { "off" }
 }

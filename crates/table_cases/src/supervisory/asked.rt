@@ -1,7 +1,7 @@
 //! What a book of work orders answers at its words.
 
-use crate::messages::message_of;
-use crate::session::word;
+use crate::supervisory::messages::message_of;
+use crate::supervisory::session::word;
 use hermes_vertical::{Question, Vertical};
 use line_base::Text;
 use std::alloc::Global;

@@ -1,6 +1,6 @@
 //! What is told of a board.
 
-use crate::asked::board;
+use crate::query::asked::board;
 use board_record::{Record, SubBoard, SubBoards};
 use forecast_query::{forecast_of, info_of};
 use hermes_horizontal::Info;
@@ -9,28 +9,20 @@ use std::alloc::Global;
 use std::io;
 use std::io::Write;
 
-/// What is told of a board with two barcodes, and with so many circuits: whether its id and its
-/// maker are, its barcodes, and how many circuits.
-pub fn tell_info(alloc: Global, case: &str, to: &mut Vec<u8>) -> io::Result<()> {
-    let mut words = case.split_whitespace();
-    let first = words.next();
-    let Some(word) = words.next() else {
-        return to.write_all(b" no board");
-    };
-    match board(alloc, word) {
+/// Appends what is told of a board with two barcodes, and with so many circuits, as an answer to a
+/// question or as a forecast: whether its id and its maker are, its barcodes, and how many circuits.
+pub fn tell(alloc: Global, is_asked: bool, words: &str, to: &mut Vec<u8>) -> io::Result<()> {
+    let (barcodes, count) = words.split_once(' ').unwrap_or((words, ""));
+    match board(alloc, barcodes) {
         Some(mut board) => {
-            add_circuits(alloc, words.next(), &mut board.subs);
-            tell_of(alloc, first == Some("info"), &board, to)
+            add_circuits(alloc, count.parse().unwrap_or(0), &mut board.subs);
+            tell_of(alloc, is_asked, &board, to)
         }
-        None => to.write_all(b" no board"),
+        None => to.write_all(b"no board"),
     }
 }
 
-fn add_circuits(alloc: Global, count: Option<&str>, subs: &mut SubBoards) {
-    let count: u32 = match count {
-        Some(count) => count.parse().unwrap_or(0),
-        None => 0,
-    };
+fn add_circuits(alloc: Global, count: u32, subs: &mut SubBoards) {
     for pos in 0..count {
         let _ = subs.push(
             alloc,
@@ -50,13 +42,13 @@ fn tell_of(alloc: Global, is_asked: bool, board: &Record, to: &mut Vec<u8>) -> i
         forecast_of(alloc, board)
     };
     match info {
-        Ok(info) => tell(&info, to),
-        Err(_) => to.write_all(b" out of memory"),
+        Ok(info) => tell_info(&info, to),
+        Err(_) => to.write_all(b"out of memory"),
     }
 }
 
-fn tell(info: &Info, to: &mut Vec<u8>) -> io::Result<()> {
-    tell_whether(info.id.is_some(), to)?;
+fn tell_info(info: &Info, to: &mut Vec<u8>) -> io::Result<()> {
+    to.write_all(whether(info.id.is_some()))?;
     tell_text(&info.created_by, to)?;
     tell_whether(info.quality.is_some(), to)?;
     tell_whether(info.flip.is_some(), to)?;
@@ -74,11 +66,12 @@ fn tell_circuits(subs: &[SubBoard], to: &mut Vec<u8>) -> io::Result<()> {
 }
 
 fn tell_whether(is_told: bool, to: &mut Vec<u8>) -> io::Result<()> {
-    if is_told {
-        to.write_all(b" told")
-    } else {
-        to.write_all(b" -")
-    }
+    to.write_all(b" ")?;
+    to.write_all(whether(is_told))
+}
+
+fn whether(is_told: bool) -> &'static [u8] {
+    if is_told { b"told" } else { b"-" }
 }
 
 fn tell_text(text: &Option<Text>, to: &mut Vec<u8>) -> io::Result<()> {

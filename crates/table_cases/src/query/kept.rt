@@ -7,11 +7,11 @@ use std::alloc::Global;
 use std::io;
 use std::io::Write;
 
-/// How many forecasts are kept of so many, and the products of the first and the last of them.
-pub fn tell_kept(alloc: Global, case: &str, to: &mut Vec<u8>) -> io::Result<()> {
+/// Appends how many forecasts are kept of so many, and the products of the first and the last of them.
+pub fn tell(alloc: Global, case: &str, to: &mut Vec<u8>) -> io::Result<()> {
     let mut forecasts = Forecasts::new(alloc);
     add_all(alloc, case, &mut forecasts);
-    tell(&forecasts, to)
+    tell_list(&forecasts, to)
 }
 
 /// Adds as many as each word says; `clear` forgets them.
@@ -46,10 +46,10 @@ fn info_of_product(alloc: Global, product: u64) -> Option<Info> {
     }
 }
 
-fn tell(forecasts: &Forecasts, to: &mut Vec<u8>) -> io::Result<()> {
+fn tell_list(forecasts: &Forecasts, to: &mut Vec<u8>) -> io::Result<()> {
     let list = forecasts.list();
     let count = list.len();
-    write!(to, " {count}")?;
+    write!(to, "{count}")?;
     if let [first, ..] = list {
         tell_product(first, to)?;
     }

@@ -7,16 +7,15 @@ use std::alloc::Global;
 use std::io;
 use std::io::Write;
 
-/// The place of the board that is found.
-pub fn tell_found(alloc: Global, case: &str, to: &mut Vec<u8>) -> io::Result<()> {
+/// Appends the place of the board that is found.
+pub fn tell(alloc: Global, case: &str, to: &mut Vec<u8>) -> io::Result<()> {
     let mut boards = Vec::new(alloc);
     let mut top = None;
     let mut bottom = None;
     for (place, word) in case.split_whitespace().enumerate() {
         match place {
-            0 => {}
-            1 => top = barcode(alloc, word),
-            2 => bottom = barcode(alloc, word),
+            0 => top = barcode(alloc, word),
+            1 => bottom = barcode(alloc, word),
             _ => {
                 if let Some(board) = board(alloc, word) {
                     let _ = boards.push(board);
@@ -25,8 +24,8 @@ pub fn tell_found(alloc: Global, case: &str, to: &mut Vec<u8>) -> io::Result<()>
         }
     }
     match find(boards.as_slice(), top.as_ref(), bottom.as_ref()) {
-        Some(place) => write!(to, " {place}"),
-        None => to.write_all(b" none"),
+        Some(place) => write!(to, "{place}"),
+        None => to.write_all(b"none"),
     }
 }
 

@@ -8,24 +8,24 @@ use std::io::Write;
 /// Whether a connection was taken.
 pub fn connected(answer: Connected, to: &mut Vec<u8>) -> io::Result<()> {
     match answer {
-        Connected::Accepted => to.write_all(b" accepted,"),
-        Connected::Second => to.write_all(b" second,"),
+        Connected::Accepted => to.write_all(b"accepted,"),
+        Connected::Second => to.write_all(b"second,"),
     }
 }
 
 /// What became of a text.
 pub fn sent(answer: Result<Sent, Memory>, to: &mut Vec<u8>) -> io::Result<()> {
     match answer {
-        Ok(Sent::Vanishes) => to.write_all(b" vanishes,"),
-        Ok(Sent::Flows) => to.write_all(b" flows,"),
-        Ok(Sent::Cuts) => to.write_all(b" cuts,"),
-        Err(Memory) => to.write_all(b" out of memory,"),
+        Ok(Sent::Vanishes) => to.write_all(b"vanishes,"),
+        Ok(Sent::Flows) => to.write_all(b"flows,"),
+        Ok(Sent::Cuts) => to.write_all(b"cuts,"),
+        Err(Memory) => to.write_all(b"out of memory,"),
     }
 }
 
 /// Bytes, a NUL as `0`.
 pub fn bytes(bytes: &[u8], to: &mut Vec<u8>) -> io::Result<()> {
-    to.write_all(b" <")?;
+    to.write_all(b"<")?;
     for byte in bytes {
         if *byte == 0 {
             to.write_all(b"0")?;
