@@ -1,7 +1,6 @@
 use Rattle.std.specs.Prelude.{◌≡◌, ◌≤◌, ◌++◌, ℕ, Bool, true, false, List, Option, None, Some}
 use Rattle.line_outside.specs.Faults.{Rose}
 use Rattle.line_outside.specs.Sink.{Grows, GrowsInPart}
-use Rattle.line_outside.specs.declared.pushing.Pushed.TheVariants as pushes
 use Rattle.line_script.specs.declared.line.LaneLine.{LaneLine}
 use Rattle.line_lanes.specs.Lanes.{no_lanes}
 use Rattle.line_lanes.specs.Parts.{IsLaneRun, LanePoint, all_points, state_behind}
