@@ -53,7 +53,11 @@ pub fn tell_book<K: Sink>(
 {
     let machine = profile.number;
     match Node::new(alloc, profile) {
-        Ok(mut node) => tell_entries(alloc, &mut node, drives, machine, book, log),
+        Ok(mut node) => {
+            let told = tell_entries(alloc, &mut node, drives, machine, book, log);
+            drop(node);
+            told
+        }
         Err(_) => Err(LogError::Memory),
     }
 }
@@ -111,7 +115,9 @@ fn tell_next<K: Sink>(
     match step_next(alloc, node, at, bytes) {
         Ok(Some(found)) => {
             let next = at + found.size;
-            match tell_step(alloc, drives, next as u64, machine, &found.acts, log) {
+            let told = tell_step(alloc, drives, next as u64, machine, &found.acts, log);
+            drop(found);
+            match told {
                 Ok(()) => Ok(Some(next)),
                 Err(error) => Err(error),
             }
