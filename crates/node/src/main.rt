@@ -2,16 +2,14 @@
 //! host's, and hands them to `node_book_main`; and standard error to `tell_book_end`.
 #![tactic(auto)]
 
-mod answer;
 mod book;
 mod file;
 
-use crate::answer::answer;
 use crate::book::NodeBook;
 use crate::file::SettingsFile;
 use line_base::{Memory, Word, Words};
 use line_outside::{HostClock, SocketPorts, WriterSink};
-use node_cli::{BookStatus, NodeStatus, tell_book_end};
+use node_cli::{BookStatus, NodeStatus, node_book_main, tell_book_end};
 use std::alloc::AllocError;
 use std::net::Net;
 use std::process::ExitCode;
@@ -37,7 +35,7 @@ where
     let mut clock = HostClock::new(copy_of(rt)?);
     let mut log = WriterSink::new(io::writer(rt));
     let mut book = NodeBook::beside(rt.alloc(), copy_of(rt)?, &words)?;
-    Ok(answer(
+    Ok(node_book_main(
         rt.alloc(),
         &words,
         &mut file,
