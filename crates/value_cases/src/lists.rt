@@ -6,7 +6,9 @@ use std::str;
 /// What the last of the words answers, done in order on an empty list, and the list after them.
 pub fn answer(alloc: Global, words: &str) -> Result<String, AllocError> {
     let mut kept = Kept::new(alloc);
-    after(alloc, &mut kept, words)
+    let said = after(alloc, &mut kept, words);
+    drop(kept);
+    said
 }
 
 fn after(alloc: Global, kept: &mut Kept, words: &str) -> Result<String, AllocError> {
@@ -19,24 +21,39 @@ fn after(alloc: Global, kept: &mut Kept, words: &str) -> Result<String, AllocErr
 
 fn listed(alloc: Global, said: &str, boards: &[Record]) -> Result<String, AllocError> {
     let mut text = format!(in alloc; "{said};")?;
-    for board in boards {
-        text.push_str(" ")?;
-        text.push_str(told(alloc, board)?.as_str())?;
-    }
+    tell_each(boards, &mut text)?;
     Ok(text)
+}
+
+fn tell_each(boards: &[Record], to: &mut String) -> Result<(), AllocError> {
+    for board in boards {
+        to.push_str(" ")?;
+        tell(board, to)?;
+    }
+    Ok(())
 }
 
 /// A board by the number of its id, with how many sub boards it has, or a mark where it failed.
 fn told(alloc: Global, board: &Record) -> Result<String, AllocError> {
-    let number = board.id.number();
+    let mut text = String::new(alloc);
+    tell(board, &mut text)?;
+    Ok(text)
+}
+
+fn tell(board: &Record, to: &mut String) -> Result<(), AllocError> {
+    write!(to, "{}", board.id.number())?;
+    tell_mark(board, to)
+}
+
+fn tell_mark(board: &Record, to: &mut String) -> Result<(), AllocError> {
     let subs = board.subs.list().len();
     if subs > 0 {
-        return format!(in alloc; "{number}+{subs}");
+        return write!(to, "+{subs}");
     }
     if board.quality == Quality::Failed {
-        return format!(in alloc; "{number}!");
+        return to.push_str("!");
     }
-    format!(in alloc; "{number}")
+    Ok(())
 }
 
 fn step(alloc: Global, kept: &mut Kept, word: &str) -> Result<String, AllocError> {
@@ -48,7 +65,7 @@ fn step(alloc: Global, kept: &mut Kept, word: &str) -> Result<String, AllocError
 
 fn popped(alloc: Global, kept: &mut Kept) -> Result<String, AllocError> {
     match kept.pop_front() {
-        Some(board) => told(alloc, &board),
+        Some(board) => taken(alloc, board),
         None => String::from_str(alloc, "none"),
     }
 }
@@ -98,8 +115,7 @@ fn placed(alloc: Global, kept: &mut Kept, what: &str, place: usize) -> Result<St
         return String::from_str(alloc, "no place");
     }
     if what == "take" {
-        let board = kept.take(place);
-        return told(alloc, &board);
+        return taken(alloc, kept.take(place));
     }
     if what == "failed" {
         kept.set_quality(place, Quality::Failed);
@@ -109,6 +125,12 @@ fn placed(alloc: Global, kept: &mut Kept, what: &str, place: usize) -> Result<St
         return given_sub(alloc, kept, place);
     }
     copied(alloc, &kept.list()[place])
+}
+
+fn taken(alloc: Global, board: Record) -> Result<String, AllocError> {
+    let said = told(alloc, &board);
+    drop(board);
+    said
 }
 
 /// Gives the board at a place one sub board more.
@@ -132,6 +154,7 @@ fn pushed_back(alloc: Global, kept: &mut Kept, number: u128) -> Result<String, A
         return Err(AllocError);
     };
     if kept.reserve_one().is_err() {
+        drop(board);
         return Err(AllocError);
     }
     kept.push_back(board);
@@ -143,6 +166,7 @@ fn pushed_front(alloc: Global, kept: &mut Kept, number: u128) -> Result<String, 
         return Err(AllocError);
     };
     if kept.reserve_one().is_err() {
+        drop(board);
         return Err(AllocError);
     }
     kept.push_front(board);
@@ -162,7 +186,7 @@ fn replaced(
         return Err(AllocError);
     };
     let before = kept.replace(place, board);
-    told(alloc, &before)
+    taken(alloc, before)
 }
 
 fn board(alloc: Global, number: u128) -> Result<Record, Memory> {
@@ -174,7 +198,11 @@ fn board(alloc: Global, number: u128) -> Result<Record, Memory> {
 /// Tells whether a board's copy is equal to it, and the copy's barcode.
 fn copied(alloc: Global, board: &Record) -> Result<String, AllocError> {
     match board.copy(alloc) {
-        Ok(copy) => compared(alloc, &copy, board),
+        Ok(copy) => {
+            let said = compared(alloc, &copy, board);
+            drop(copy);
+            said
+        }
         Err(_) => Err(AllocError),
     }
 }
@@ -183,9 +211,13 @@ fn compared(alloc: Global, copy: &Record, board: &Record) -> Result<String, Allo
     if copy != board {
         return String::from_str(alloc, "another board");
     }
-    let barcode = match &copy.top {
+    let barcode = barcode_of(copy);
+    format!(in alloc; "equal, {barcode}")
+}
+
+fn barcode_of(board: &Record) -> &str {
+    match &board.top {
         Some(text) => str::from_utf8(text.bytes()).unwrap_or("no text"),
         None => "no barcode",
-    };
-    format!(in alloc; "equal, {barcode}")
+    }
 }
