@@ -50,10 +50,10 @@ fn tell_mark(board: &Record, to: &mut String) -> Result<(), AllocError> {
     if subs > 0 {
         return write!(to, "+{subs}");
     }
-    if board.quality == Quality::Failed {
-        return to.push_str("!");
+    match board.quality {
+        Quality::Failed => to.push_str("!"),
+        _ => Ok(()),
     }
-    Ok(())
 }
 
 fn step(alloc: Global, kept: &mut Kept, word: &str) -> Result<String, AllocError> {

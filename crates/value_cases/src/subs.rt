@@ -8,7 +8,9 @@ use std::alloc::{AllocError, Global};
 /// `x` or `"`. The word `copy` tells whether a copy is equal.
 pub fn answer(alloc: Global, words: &str) -> Result<String, AllocError> {
     let mut subs = SubBoards::new();
-    after(alloc, &mut subs, words)
+    let said = after(alloc, &mut subs, words);
+    drop(subs);
+    said
 }
 
 fn after(alloc: Global, subs: &mut SubBoards, words: &str) -> Result<String, AllocError> {
@@ -71,19 +73,32 @@ fn made(alloc: Global, what: &str, number: u32) -> Result<SubBoard, AllocError> 
 }
 
 fn repeated(alloc: Global, byte: u8, length: u32) -> Result<Text, AllocError> {
-    let mut bytes = Vec::new(alloc);
-    for _ in 0..length {
-        bytes.push(byte)?;
-    }
+    let bytes = filled(alloc, byte, length)?;
     match Text::read(alloc, bytes.as_slice()) {
         Ok(text) => Ok(text),
         Err(_) => Err(AllocError),
     }
 }
 
+fn filled(alloc: Global, byte: u8, length: u32) -> Result<Vec<u8>, AllocError> {
+    let mut bytes = Vec::new(alloc);
+    for _ in 0..length {
+        bytes.push(byte)?;
+    }
+    Ok(bytes)
+}
+
 fn copied(subs: &SubBoards) -> Result<&'static str, AllocError> {
     match subs.copy() {
-        Ok(copy) => Ok(if copy == *subs { "equal" } else { "another" }),
+        Ok(copy) => {
+            let said = compared(&copy, subs);
+            drop(copy);
+            Ok(said)
+        }
         Err(_) => Err(AllocError),
     }
+}
+
+fn compared(copy: &SubBoards, subs: &SubBoards) -> &'static str {
+    if copy == subs { "equal" } else { "another" }
 }

@@ -97,10 +97,20 @@ fn text(alloc: Global, bytes: &[u8]) -> Result<String, AllocError> {
 
 fn copied(alloc: Global, text: &Text, bytes: &[u8]) -> Result<String, AllocError> {
     match text.copy(alloc) {
-        Ok(copy) if copy.bytes() == bytes => format!(in alloc; "{} bytes", text.bytes().len()),
-        Ok(_) => String::from_str(alloc, "another text"),
+        Ok(copy) => {
+            let same = copy.bytes() == bytes;
+            drop(copy);
+            told_same(alloc, same, text.bytes().len())
+        }
         Err(_) => Err(AllocError),
     }
+}
+
+fn told_same(alloc: Global, same: bool, count: usize) -> Result<String, AllocError> {
+    if same {
+        return format!(in alloc; "{count} bytes");
+    }
+    String::from_str(alloc, "another text")
 }
 
 fn plain(alloc: Global, bytes: &[u8]) -> Result<String, AllocError> {
