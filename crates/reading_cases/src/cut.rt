@@ -61,16 +61,33 @@ fn tell_way(
     bytes: &[u8],
     to: &mut Vec<u8>,
 ) -> io::Result<()> {
-    let Ok(mut cutter) = Cutter::new(alloc) else {
-        return Err(io::Error::from(ErrorKind::OutOfMemory));
-    };
-    if turned {
-        turn(alloc, &mut cutter, number)?;
-        tell_piece(&mut cutter, bytes, to)?;
-    } else {
-        tell_pieces(&mut cutter, bytes, number.max(1), to)?;
+    match Cutter::new(alloc) {
+        Ok(mut cutter) => {
+            let done = tell_by(alloc, &mut cutter, turned, number, bytes, to);
+            // by name, since at the end of a scope all its parts are let go in this function's goals
+            drop(cutter);
+            done
+        }
+        Err(_) => Err(io::Error::from(ErrorKind::OutOfMemory)),
     }
-    tell_rest(&mut cutter, to)
+}
+
+/// Appends what a cutter cuts in one way.
+fn tell_by(
+    alloc: Global,
+    cutter: &mut Cutter,
+    turned: bool,
+    number: usize,
+    bytes: &[u8],
+    to: &mut Vec<u8>,
+) -> io::Result<()> {
+    if turned {
+        turn(alloc, cutter, number)?;
+        tell_piece(cutter, bytes, to)?;
+    } else {
+        tell_pieces(cutter, bytes, number.max(1), to)?;
+    }
+    tell_rest(cutter, to)
 }
 
 /// Cuts a message that ends so many bytes before the end of the ring.

@@ -22,7 +22,11 @@ pub fn tell(alloc: Global, case: &str, to: &mut Vec<u8>) -> io::Result<()> {
 /// Appends what the bytes say.
 fn tell_read(alloc: Global, bytes: &[u8], to: &mut Vec<u8>) -> io::Result<()> {
     match read_horizontal(alloc, bytes) {
-        Ok(message) => within(append_copy(alloc, &message, to)),
+        Ok(message) => {
+            let done = append_copy(alloc, &message, to);
+            drop(message);
+            within(done)
+        }
         Err(error) => within(append_error(alloc, error, to)),
     }
 }
@@ -30,7 +34,10 @@ fn tell_read(alloc: Global, bytes: &[u8], to: &mut Vec<u8>) -> io::Result<()> {
 /// Appends board information that tells nothing, as a message.
 fn append_nothing(alloc: Global, to: &mut Vec<u8>) -> Result<(), Memory> {
     let body = Said::new(alloc, Horizontal::SendBoardInfo(no_info()))?;
-    append_copy(alloc, &Message { stamp: None, body }, to)
+    let message = Message { stamp: None, body };
+    let done = append_copy(alloc, &message, to);
+    drop(message);
+    done
 }
 
 /// Appends the text of a message's copy.

@@ -18,7 +18,11 @@ pub fn tell(alloc: Global, case: &str, to: &mut Vec<u8>) -> io::Result<()> {
 /// Appends what the bytes say.
 fn tell_read(alloc: Global, bytes: &[u8], to: &mut Vec<u8>) -> io::Result<()> {
     match read_vertical(alloc, bytes) {
-        Ok(message) => within(append_copy(alloc, &message, to)),
+        Ok(message) => {
+            let done = append_copy(alloc, &message, to);
+            drop(message);
+            within(done)
+        }
         Err(error) => within(append_error(alloc, error, to)),
     }
 }
