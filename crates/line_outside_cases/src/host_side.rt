@@ -40,12 +40,12 @@ where
     let Ok(other) = host.clone() else {
         return "no host";
     };
-    both(
-        host,
-        &mut SocketPorts::new(one),
-        &mut SocketPorts::new(other),
-        port,
-    )
+    let mut server = SocketPorts::new(one);
+    let mut client = SocketPorts::new(other);
+    let said = both(host, &mut server, &mut client, port);
+    drop(client);
+    drop(server);
+    said
 }
 
 /// Whether another address of this computer reaches who listens at every address, and not who
@@ -79,6 +79,19 @@ where
     };
     let mut server = SocketPorts::new(one);
     let mut client = SocketPorts::new(other);
+    let found = found_between(host, &mut server, &mut client, listens);
+    drop(client);
+    drop(server);
+    found
+}
+
+/// What the client finds at another address of this computer, where the server listens.
+fn found_between<R: Net + rt::Clock + Drop>(
+    host: &R,
+    server: &mut SocketPorts<R>,
+    client: &mut SocketPorts<R>,
+    listens: Address,
+) -> Option<Got> {
     if server.listen(Way::Panel, listens) != Opened::Done {
         return None;
     }
@@ -87,7 +100,7 @@ where
         port: listens.port,
     };
     match client.connect(Way::Upstream, elsewhere) {
-        Opened::Done => Some(found(host, &mut client, Way::Upstream)),
+        Opened::Done => Some(found(host, client, Way::Upstream)),
         Opened::Failed => Some(Got::Closed),
     }
 }

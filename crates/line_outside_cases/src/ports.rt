@@ -18,7 +18,11 @@ pub fn memory(alloc: Global, asked: &str) -> Result<String, AllocError> {
     let (calls, bytes) = rooms_of(rooms);
     let made = MemoryPorts::failing(alloc, answers.as_slice(), calls, bytes, failing.as_slice());
     match made {
-        Ok(mut ports) => all_said(alloc, &mut ports, asks),
+        Ok(mut ports) => {
+            let said = all_said(alloc, &mut ports, asks);
+            drop(ports);
+            said
+        }
         Err(_) => Err(AllocError),
     }
 }

@@ -11,8 +11,13 @@ pub fn memory(alloc: Global, asked: &str) -> Result<String, AllocError> {
         Some(parts) => parts,
         None => return String::from_str(alloc, "no case"),
     };
-    match MemorySink::new(alloc, room_of(room), calls_of(alloc, failing)?.as_slice()) {
-        Ok(mut sink) => pushes(alloc, &mut sink, pieces),
+    let failing = calls_of(alloc, failing)?;
+    match MemorySink::new(alloc, room_of(room), failing.as_slice()) {
+        Ok(mut sink) => {
+            let told = pushes(alloc, &mut sink, pieces);
+            drop(sink);
+            told
+        }
         Err(_) => Err(AllocError),
     }
 }
@@ -23,8 +28,13 @@ pub fn whole(alloc: Global, asked: &str) -> Result<String, AllocError> {
         Some(parts) => parts,
         None => return String::from_str(alloc, "no case"),
     };
-    match MemorySink::new(alloc, room_of(room), calls_of(alloc, failing)?.as_slice()) {
-        Ok(mut sink) => whole_pushes(alloc, &mut sink, pieces),
+    let failing = calls_of(alloc, failing)?;
+    match MemorySink::new(alloc, room_of(room), failing.as_slice()) {
+        Ok(mut sink) => {
+            let told = whole_pushes(alloc, &mut sink, pieces);
+            drop(sink);
+            told
+        }
         Err(_) => Err(AllocError),
     }
 }
@@ -57,7 +67,11 @@ pub fn steady(alloc: Global, asked: &str) -> Result<String, AllocError> {
         None => return String::from_str(alloc, "no case"),
     };
     match SteadySink::new(alloc, room_of(room)) {
-        Ok(mut sink) => steady_pushes(alloc, &mut sink, pieces),
+        Ok(mut sink) => {
+            let told = steady_pushes(alloc, &mut sink, pieces);
+            drop(sink);
+            told
+        }
         Err(_) => Err(AllocError),
     }
 }
@@ -74,7 +88,9 @@ fn steady_pushes(alloc: Global, sink: &mut SteadySink, pieces: &str) -> Result<S
 /// The pieces that are pushed into a writer of the host's, and at last what it wrote.
 pub fn writer(alloc: Global, pieces: &str) -> Result<String, AllocError> {
     let mut host = Host::new(alloc);
-    written(alloc, &mut host, pieces)
+    let told = written(alloc, &mut host, pieces);
+    drop(host);
+    told
 }
 
 fn written(alloc: Global, host: &mut Host, pieces: &str) -> Result<String, AllocError> {

@@ -10,7 +10,10 @@ use std::str;
 /// The calls that fail, the bytes, and the rooms of the pulls.
 pub fn memory(alloc: Global, asked: &str) -> Result<String, AllocError> {
     match two_of(asked) {
-        Some((failing, asked)) => failing_at(alloc, calls_of(alloc, failing)?.as_slice(), asked),
+        Some((failing, asked)) => {
+            let failing = calls_of(alloc, failing)?;
+            failing_at(alloc, failing.as_slice(), asked)
+        }
         None => String::from_str(alloc, "no case"),
     }
 }
@@ -21,7 +24,11 @@ fn failing_at(alloc: Global, failing: &[u64], asked: &str) -> Result<String, All
         None => return String::from_str(alloc, "no case"),
     };
     match MemorySource::new(alloc, bytes.as_bytes(), failing) {
-        Ok(mut source) => pulls(alloc, &mut source, rooms),
+        Ok(mut source) => {
+            let told = pulls(alloc, &mut source, rooms);
+            drop(source);
+            told
+        }
         Err(_) => Err(AllocError),
     }
 }
@@ -33,7 +40,11 @@ pub fn steady(alloc: Global, asked: &str) -> Result<String, AllocError> {
         None => return String::from_str(alloc, "no case"),
     };
     match SteadySource::new(alloc, bytes.as_bytes()) {
-        Ok(mut source) => pulls(alloc, &mut source, rooms),
+        Ok(mut source) => {
+            let told = pulls(alloc, &mut source, rooms);
+            drop(source);
+            told
+        }
         Err(_) => Err(AllocError),
     }
 }
@@ -41,7 +52,9 @@ pub fn steady(alloc: Global, asked: &str) -> Result<String, AllocError> {
 /// The rooms of the pulls of a reader of the host's.
 pub fn reader(alloc: Global, rooms: &str) -> Result<String, AllocError> {
     let mut source = ReaderSource::new(Host::new(alloc));
-    pulls(alloc, &mut source, rooms)
+    let told = pulls(alloc, &mut source, rooms);
+    drop(source);
+    told
 }
 
 fn pulls<S: Source>(alloc: Global, source: &mut S, rooms: &str) -> Result<String, AllocError> {
