@@ -41,7 +41,9 @@ fn begun_as(alloc: Global, machine: Text, book: &[u8]) -> Begun {
 }
 
 fn whole_of(resumed: Resumed) -> u64 {
-    resumed.whole
+    let whole = resumed.whole;
+    drop(resumed);
+    whole
 }
 
 pub fn tell_resumed(alloc: Global, book: &[u8], to: &mut Vec<u8>) -> io::Result<()> {

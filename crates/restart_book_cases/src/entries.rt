@@ -32,7 +32,9 @@ fn told_again(alloc: Global, found: (Entry, usize), bytes: &[u8]) -> Told
     requires { IsWritable found.0 }
 {
     let (entry, size) = found;
-    match is_same(alloc, &entry, size, bytes) {
+    let same = is_same(alloc, &entry, size, bytes);
+    drop(entry);
+    match same {
         Ok(true) => Told::Entry(size),
         Ok(false) => Told::Another,
         Err(_) => Told::NoMemory,

@@ -16,23 +16,30 @@ const LOG_BYTES: usize = 100_000;
 pub fn tell_logged(alloc: Global, book: &[u8], to: &mut Vec<u8>) -> io::Result<()> {
     match log_of(alloc, book) {
         Ok((log, answer)) => {
-            tell_lines(log.contents().unwrap_or(b"untold"), to)?;
-            tell_answer(answer, to)
+            let done = tell_log(&log, answer, to);
+            drop(log);
+            done
         }
         Err(Memory) => write!(to, "out of memory"),
     }
 }
 
+fn tell_log(log: &MemorySink, answer: Result<u64, LogError>, to: &mut Vec<u8>) -> io::Result<()> {
+    tell_lines(log.contents().unwrap_or(b"untold"), to)?;
+    tell_answer(answer, to)
+}
+
 fn log_of(alloc: Global, book: &[u8]) -> Result<(MemorySink, Result<u64, LogError>), Memory> {
+    let machine = Text::plain(alloc, b"M1")?;
+    let mut log = MemorySink::new(alloc, LOG_BYTES, &[])?;
     let profile = NodeProfile {
         number: 1,
-        machine: Text::plain(alloc, b"M1")?,
+        machine,
         lane: 1,
         capacity: 4,
         used: 0,
         bridge: false,
     };
-    let mut log = MemorySink::new(alloc, LOG_BYTES, &[])?;
     let answer = tell_book(alloc, profile, false, book, &mut log);
     Ok((log, answer))
 }
