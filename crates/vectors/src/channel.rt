@@ -36,7 +36,11 @@ impl Channel {
 
 fn tell_horizontal(alloc: Global, bytes: &[u8], to: &mut Vec<u8>) -> Result<(), Memory> {
     match read_horizontal(alloc, bytes) {
-        Ok(message) => write_message(&message, to),
+        Ok(message) => {
+            let done = write_message(&message, to);
+            drop(message);
+            done
+        }
         Err(error) => tell_refusal(alloc, error, to),
     }
 }
@@ -47,7 +51,11 @@ fn write_message(message: &Message, to: &mut Vec<u8>) -> Result<(), Memory> {
 
 fn tell_supervisory(alloc: Global, bytes: &[u8], to: &mut Vec<u8>) -> Result<(), Memory> {
     match read_vertical(alloc, bytes) {
-        Ok(message) => write_supervisory(&message, to),
+        Ok(message) => {
+            let done = write_supervisory(&message, to);
+            drop(message);
+            done
+        }
         Err(error) => tell_refusal(alloc, error, to),
     }
 }

@@ -9,11 +9,14 @@ use std::io::Write;
 /// Appends what is cut first of a stream: a message with its length, that one is too long, or that
 /// none has ended.
 pub fn tell_cut(alloc: Global, stream: &[u8], to: &mut Vec<u8>) -> Result<(), Memory> {
-    let mut cutter = match Cutter::new(alloc) {
-        Ok(cutter) => cutter,
-        Err(_) => return Err(Memory),
-    };
-    tell_first(&mut cutter, stream, to)
+    match Cutter::new(alloc) {
+        Ok(mut cutter) => {
+            let done = tell_first(&mut cutter, stream, to);
+            drop(cutter);
+            done
+        }
+        Err(_) => Err(Memory),
+    }
 }
 
 fn tell_first(cutter: &mut Cutter, stream: &[u8], to: &mut Vec<u8>) -> Result<(), Memory> {
