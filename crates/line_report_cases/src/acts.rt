@@ -45,18 +45,28 @@ fn told_of(alloc: Global, spelled: &str) -> Result<VerticalMessage, Memory> {
 
 /// The act that takes the answer which a case spells.
 fn answered_of(alloc: Global, spelled: &str) -> Result<Act, Memory> {
-    match told_of(alloc, spelled)?.body {
-        Vertical::SendWorkOrderInfo { query, order, .. } => Ok(Act::Answered(query, order)),
+    let told = told_of(alloc, spelled)?;
+    let answered = match &told.body {
+        Vertical::SendWorkOrderInfo { query, order, .. } => answered(alloc, *query, order),
         _ => Err(Memory),
-    }
+    };
+    drop(told);
+    answered
+}
+
+fn answered(alloc: Global, query: u64, order: &Text) -> Result<Act, Memory> {
+    Ok(Act::Answered(query, order.copy(alloc)?))
 }
 
 /// The work order of the answer that a case spells.
 pub fn order_of(alloc: Global, spelled: &str) -> Result<Text, Memory> {
-    match told_of(alloc, spelled)?.body {
-        Vertical::SendWorkOrderInfo { order, .. } => Ok(order),
+    let told = told_of(alloc, spelled)?;
+    let order = match &told.body {
+        Vertical::SendWorkOrderInfo { order, .. } => order.copy(alloc),
         _ => Err(Memory),
-    }
+    };
+    drop(told);
+    order
 }
 
 fn text_of(alloc: Global, text: &str) -> Result<Text, Memory> {

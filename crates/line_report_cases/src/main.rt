@@ -68,14 +68,14 @@ fn tell_shifted(alloc: Global, about: &str, to: &mut Vec<u8>) -> Result<(), Memo
     let given = told_of(alloc, given)?;
     let got = told_of(alloc, got)?;
     let mut told = LaneHappened::new(alloc);
-    tell_shift(
-        values::number_of(from),
-        given,
-        values::number_of(lane),
-        got,
-        &mut told,
-    )?;
-    write_all(7, &told, to)
+    let from = values::number_of(from);
+    let lane = values::number_of(lane);
+    let done = match tell_shift(from, given, lane, got, &mut told) {
+        Ok(()) => write_all(7, &told, to),
+        Err(Memory) => Err(Memory),
+    };
+    drop(told);
+    done
 }
 
 /// What machine 3 did: its acts, with `, ` between.
