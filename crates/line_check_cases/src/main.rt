@@ -23,9 +23,16 @@ fn main(rt: HostRuntime) -> io::Result<()> {
 /// What the checker says of a log, and at which of its lines it first said so.
 fn said_of(alloc: Global, log: &str) -> Result<String, AllocError> {
     let mut checker = Checker::new(alloc);
-    let given = give_all(alloc, &mut checker, log)?;
-    let said = end_of(alloc, checker)?;
-    format!(in alloc; "{said}, {given}")
+    match give_all(alloc, &mut checker, log) {
+        Ok(given) => {
+            let said = end_of(alloc, checker)?;
+            format!(in alloc; "{said}, {given}")
+        }
+        Err(AllocError) => {
+            drop(checker);
+            Err(AllocError)
+        }
+    }
 }
 
 /// Gives all lines, also behind an error, which is then answered again.
