@@ -71,10 +71,19 @@ fn run<R: Env + Files + Print + AllocGlobal>(rt: &R) -> Result<(), End> {
     let path = word_of(rt)?;
     let settings = settings_of(rt, path.as_str())?;
     let drives = settings.panel.drives;
-    let profile = profile_of(rt.alloc(), &settings)?;
-    let book = book_of(rt, path)?;
-    let mut log = WriterSink::new(io::writer(rt));
-    told(tell_book(rt.alloc(), profile, drives, book.as_slice(), &mut log))
+    let profile = profile_of(rt.alloc(), &settings);
+    drop(settings);
+    let profile = profile?;
+    match book_of(rt, path) {
+        Ok(book) => {
+            let mut log = WriterSink::new(io::writer(rt));
+            told(tell_book(rt.alloc(), profile, drives, book.as_slice(), &mut log))
+        }
+        Err(end) => {
+            drop(profile);
+            Err(end)
+        }
+    }
 }
 
 /// The one word behind the program's name.
