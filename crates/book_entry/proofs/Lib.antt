@@ -6,3 +6,5 @@ pub mod Entries
 pub mod Exact
 pub mod Counted
 pub mod Writing
+pub mod Few
+pub mod Given

@@ -5,3 +5,6 @@ pub mod Spelling
 pub mod Fronts
 pub mod Reading
 pub mod Worked
+pub mod Given
+pub mod Steps
+pub mod Short

@@ -4,7 +4,7 @@ use Rattle.std.proofs.lemmas.List.{drop-drop}
 use Rattle.book_entry.specs.Fronts.{Begins, IsBad, IsFound, IsFront}
 use Rattle.book_entry.specs.Spelling.{IsEntry, spelling}
 use Rattle.book_entry.specs.declared.entry.Entry.{Entry}
-use Rattle.entry_step.specs.Steps.{AreEntries, DoesEntry, IsRefused, Replays, spelled}
+use Rattle.book_entry.specs.Steps.{AreEntries, DoesEntry, IsRefused, Replays, spelled}
 use Rattle.line_outside.proofs.Growing.{grows_more, grows_none, grows_part}
 use Rattle.line_outside.specs.Sink.{Grows, GrowsInPart}
 use Rattle.machine_log.specs.Texts.{lines_of}

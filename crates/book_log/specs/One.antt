@@ -2,7 +2,7 @@
 use Rattle.std.specs.Prelude.{◌≡◌, ◌+◌, ℕ, Bool, List, Option, None, Some, Result, Ok, Err}
 use Rattle.book_entry.specs.Fronts.{IsBad, IsFound, IsFront}
 use Rattle.book_entry.specs.declared.entry.Entry.{Entry}
-use Rattle.entry_step.specs.Steps.{DoesEntry, IsRefused}
+use Rattle.book_entry.specs.Steps.{DoesEntry, IsRefused}
 use Rattle.line_outside.specs.Sink.{Grows, GrowsInPart}
 use Rattle.machine_log.specs.Texts.{lines_of}
 use Rattle.node_core.specs.Node.{NodeState}

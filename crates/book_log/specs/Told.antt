@@ -3,7 +3,7 @@
 use Rattle.std.specs.Prelude.{◌≡◌, ◌≤◌, ◌++◌, ℕ, Bool, List, [], ◌∷◌, Option, Result, Ok, Err, length, drop}
 use Rattle.book_entry.specs.Fronts.{IsFront}
 use Rattle.book_entry.specs.declared.entry.Entry.{Entry}
-use Rattle.entry_step.specs.Steps.{AreEntries, DoesEntry, spelled}
+use Rattle.book_entry.specs.Steps.{AreEntries, DoesEntry, spelled}
 use Rattle.line_outside.specs.Faults.{Rises}
 use Rattle.line_outside.specs.Sink.{Grows, GrowsInPart}
 use Rattle.machine_log.specs.Texts.{lines_of}

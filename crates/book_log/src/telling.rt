@@ -4,8 +4,7 @@ ghost use Rattle.book_log.specs.Told.{HasLogCause, TellsBook};
 ghost use Rattle.machine_log.specs.Texts.{lines_of};
 ghost use Rattle.node_core.specs.Node.{new_node};
 
-use book_entry::{Entry, EntryError, read_entry};
-use entry_step::{StepError, step_entry};
+use book_entry::{Entry, EntryError, StepError, read_entry, step_entry};
 use line_base::Memory;
 use line_outside::{Pushed, Sink, push_all};
 use machine_log::write_lines;

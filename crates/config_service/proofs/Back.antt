@@ -12,10 +12,10 @@ use Rattle.line_base.specs.declared.states.Severity.TheVariants as severities
 use Rattle.line_base.proofs.MomentTexts.{moment_of-moment_text}
 use Rattle.line_base.proofs.Printable.{IsText-decimal, IsText-moment, number_of-decimal}
 use Rattle.line_outside.specs.declared.way.Address.{Address}
-use Rattle.host_address.specs.Address.{address_of, port_of}
-use Rattle.host_address.specs.Written.{address_text, IsProperAddress}
-use Rattle.host_address.proofs.Back.{address_back, port_of-decimal}
-use Rattle.host_address.proofs.Plain.{IsText-address}
+use Rattle.line_outside.specs.Address.{address_of, port_of}
+use Rattle.line_outside.specs.Written.{address_text, IsProperAddress}
+use Rattle.line_outside.proofs.Back.{address_back, port_of-decimal}
+use Rattle.line_outside.proofs.Plain.{IsText-address}
 use Rattle.hermes_element.specs.Element.{Tree, Forest, none, more, trees_of}
 use Rattle.hermes_element.specs.Canonical as form
 use Rattle.hermes_element.specs.Canonical.{HasFewDistinct, IsProperAttribute, HasProperTag, unplaced_attribute, unplaced_forest, unplaced}

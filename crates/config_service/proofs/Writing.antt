@@ -4,7 +4,7 @@ use Rattle.std.proofs.lemmas.List.Concat.{flat_map-cons}
 use Rattle.line_base.specs.declared.states.Code.{Code}
 use Rattle.line_base.specs.declared.states.Severity.{Severity}
 use Rattle.line_outside.specs.declared.way.Address.{Address}
-use Rattle.host_address.specs.Written.{address_text}
+use Rattle.line_outside.specs.Written.{address_text}
 use Rattle.hermes_element.specs.Canonical.{canonical_attribute}
 use Rattle.hermes_element.specs.declared.attribute.Attribute.{Attribute}
 use Rattle.config_service.specs.declared.attr.ConfigAttr.TheVariants as attrs

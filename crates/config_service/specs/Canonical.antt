@@ -9,7 +9,7 @@ use Rattle.line_base.specs.declared.states.Code.{Code}
 use Rattle.line_base.specs.declared.states.Severity.{Severity}
 use Rattle.line_base.specs.declared.states.Severity.TheVariants as severities
 use Rattle.line_outside.specs.declared.way.Address.{Address}
-use Rattle.host_address.specs.Written.{address_text, IsProperAddress}
+use Rattle.line_outside.specs.Written.{address_text, IsProperAddress}
 use Rattle.hermes_element.specs.Element.{Tree, none, more}
 use Rattle.hermes_element.specs.Canonical as form
 use Rattle.hermes_element.specs.declared.attribute.Attribute.{Attribute}

@@ -8,7 +8,7 @@ use Rattle.line_base.specs.Results.{then_ok, mapped_ok}
 use Rattle.line_base.specs.declared.states.Severity.{Severity}
 use Rattle.line_base.specs.declared.states.Severity.TheVariants as severities
 use Rattle.line_outside.specs.declared.way.Address.{Address}
-use Rattle.host_address.specs.Address.{address_of, port_of}
+use Rattle.line_outside.specs.Address.{address_of, port_of}
 use Rattle.hermes_element.specs.Element.{Tree, trees_of}
 use Rattle.hermes_element.specs.declared.attribute.Attribute.{Attribute}
 use Rattle.config_service.specs.declared.attr.ConfigAttr.{ConfigAttr}

@@ -3,13 +3,12 @@
 
 ghost use Rattle.std.specs.Prelude.{IfSome};
 ghost use Rattle.line_base.specs.Moment.{IsMomentMillis};
-ghost use Rattle.host_address.specs.Written.{IsProperAddress};
+ghost use Rattle.line_outside.specs.Written.{IsProperAddress};
 ghost use Rattle.config_service.specs.Canonical.{IsProperBody, IsProperMessage, IsProperSettings};
 
 use crate::message::{ConfigBody, ConfigMessage, Settings};
-use host_address::address_is_proper;
 use line_base::Moment;
-use line_outside::Address;
+use line_outside::{Address, address_is_proper};
 
 /// Every part of a message is within what its type allows.
 pub fn parts_are_proper(message: &ConfigMessage)

@@ -1,7 +1,7 @@
 //! The messages, read attribute by attribute in the order of the table.
 
 ghost use Rattle.std.specs.Prelude.{◌≡◌};
-ghost use Rattle.host_address.specs.Address.{address_of, port_of};
+ghost use Rattle.line_outside.specs.Address.{address_of, port_of};
 ghost use Rattle.line_base.specs.Number.{number_of};
 ghost use Rattle.config_service.specs.Said.{body_of, moment_in, notice_of, optional, required, settings_of, severity_of, text_of};
 ghost use Rattle.config_service.specs.Spelling.{Gives, Reads};
@@ -13,9 +13,8 @@ use crate::find::{bad, first_named, missing};
 use crate::kind::{ConfigKind, kind_named};
 use crate::message::{ConfigBody, Settings};
 use hermes_element::{LentAttribute, LentElement, LentValue};
-use host_address::{address_of, port_of};
 use line_base::{Code, Moment, Severity, read_number};
-use line_outside::Address;
+use line_outside::{Address, address_of, port_of};
 use std::alloc::Global;
 
 /// What the element of a message says.

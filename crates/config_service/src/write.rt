@@ -4,15 +4,14 @@ ghost use Rattle.hermes_element.specs.Standing.{StillStands};
 ghost use Rattle.config_service.specs.Canonical.{IsWritable, assignment, attributes_of, body_spelling, canonical, notice_attributes, port_attribute, settings_attributes, severity_number, spelled, stamp_attributes, upstream_attributes};
 ghost use Rattle.config_service.specs.Spelling.{Spells};
 ghost use Rattle.line_base.specs.Moment.{moment_text};
-ghost use Rattle.host_address.specs.Written.{address_text};
+ghost use Rattle.line_outside.specs.Written.{address_text};
 ghost use Rattle.config_service.specs.declared.attr.ConfigAttr.TheVariants as attrs;
 
 use crate::attr::ConfigAttr;
 use crate::message::{ConfigBody, ConfigMessage, Settings};
 use hermes_element::write_attribute;
-use host_address::write_address;
 use line_base::{Code, Memory, Moment, Severity, Text};
-use line_outside::Address;
+use line_outside::{Address, write_address};
 
 /// Appends the canonical spelling of a message, or leaves `to` as it was where memory is wanting.
 ///

@@ -1,3 +1,4 @@
 mod Telling
 mod Lines
 mod Supervised
+pub mod Values

@@ -7,7 +7,7 @@ use Rattle.line_script.specs.declared.line.LineWhy.TheVariants as whys
 use Rattle.node_core.specs.May.{may_do}
 use Rattle.node_core.specs.declared.input.No.{No}
 use Rattle.node_core.specs.declared.input.No.TheVariants as nos
-use Rattle.panel_inputs.specs.Inputs.{input_of}
+use Rattle.node_panel.specs.Inputs.{input_of}
 use Rattle.machine_port.specs.Port.{PortState, made_after, may_take}
 use Rattle.machine_text.specs.Lines.{DoesLine, asked_by}
 use Rattle.machine_text.specs.declared.line.LineNotDone.{LineNotDone}

@@ -6,11 +6,11 @@ use Rattle.node_core.specs.May.{may_do}
 use Rattle.machine_port.specs.Port.{PortState, made_after, may_take, sent, sent_refusal}
 use Rattle.machine_port.specs.Supervisor.{sent_to_supervisor}
 use Rattle.supervisory_core.specs.Orders.{answer_to}
-use Rattle.machine_views.specs.Records.{field_text, record_at}
+use Rattle.machine_port.specs.Records.{field_text, record_at}
 use Rattle.machine_log.specs.Texts.{log_text}
 use Rattle.machine_text.specs.Lines.{DoesLine, asked_by}
 use Rattle.machine_text.specs.Logs.{log_of}
-use Rattle.panel_inputs.specs.Inputs.{input_of}
+use Rattle.node_panel.specs.Inputs.{input_of}
 use Rattle.hermes_machine.specs.Meanings.{HasText, Happens, happening_of, is_moment, made_by, may_happen, told_of, wants_text}
 use Rattle.hermes_machine.specs.Numbers.{number_of_no, number_of_unasked}
 use Rattle.hermes_machine.specs.declared.input.HermesInput.{HermesInput}

@@ -1,7 +1,7 @@
 ghost use Rattle.std.specs.Prelude.{◌≡◌, ◌==◌, Option, None, Some, is_some, option_map};
 
+use crate::loose::Loose;
 use crate::slot::Slot;
-use held::Loose;
 use machine_port::Port;
 use std::alloc::Global;
 use std::mem;

@@ -1,8 +1,8 @@
 //! What is read of a machine: an act of its last step, a board, and their texts.
 
 ghost use Rattle.std.specs.Prelude.{◌≡◌, ◌≤◌, ◌&&◌, ◌==◌, drop, IfSome, is_some, nat_le, slice_get};
-ghost use Rattle.machine_views.specs.Acts.{act_seen};
-ghost use Rattle.machine_views.specs.Records.{board_seen, field_text, record_at};
+ghost use Rattle.machine_port.specs.Acts.{act_seen};
+ghost use Rattle.machine_port.specs.Records.{board_seen, field_text, record_at};
 ghost use Rattle.machine_log.specs.Texts.{log_text};
 ghost use Rattle.machine_text.specs.Logs.{TellsOwn};
 ghost use Rattle.hermes_machine.specs.Calls.{IsCopied, IsCopiedOrWanting, IsRead, IsReadOrWanting, board_answer, field_in, read_answer, text_of_act, text_of_field, text_of_log, text_of_order, text_or_none};
@@ -11,12 +11,11 @@ use crate::answer::{BAD_INPUT, DONE, NONE};
 use board_record::Record;
 use line_base::Memory;
 use machine_log::write_log_text;
-use machine_port::Port;
-use machine_text::write_log;
-use machine_views::{
-    ACT_BYTES, BOARD_BYTES, HermesAct, HermesBoard, act_seen, board_seen, copy_front, record_at,
-    write_field,
+use machine_port::{
+    ACT_BYTES, BOARD_BYTES, HermesAct, HermesBoard, Port, act_seen, board_seen, copy_front,
+    record_at, write_field,
 };
+use machine_text::write_log;
 use node_core::Act;
 use std::alloc::Global;
 

@@ -1,7 +1,7 @@
 ghost use Rattle.std.specs.Prelude.{◌≡◌, true, Option, Some, None, is_some};
 ghost use Rattle.machine_port.specs.Port.{PortState};
 
-use held::Loose;
+use crate::loose::Loose;
 use machine_port::Port;
 use std::alloc::Global;
 use std::marker::Model;

@@ -4,8 +4,7 @@ ghost use Rattle.hermes_machine.specs.Calls.{IsCopied, sent_on, unsent_on};
 
 use crate::answer::{BAD_INPUT, DONE};
 use line_base::Side;
-use machine_port::Port;
-use machine_views::copy_front;
+use machine_port::{Port, copy_front};
 
 /// The text that waits on a way, by its number.
 fn unsent_on(port: &Port, way: u32) -> Option<&[u8]>

@@ -2,13 +2,13 @@
 use Rattle.std.proofs.Common.{◌≤◌, List, [], ◌∷◌, ◌++◌, ap, arith, length, length-append, subst}
 use Rattle.std.specs.List.{AllByRecursion}
 use Rattle.line_script.specs.declared.line.LaneLine.{LaneLine}
-use Rattle.line_lanes.specs.Along.{IsFitLaneLine}
-use Rattle.line_lanes.specs.Lanes.{no_lanes}
-use Rattle.line_lanes.specs.Parts.{all_points, state_behind}
-use Rattle.report_ledger.specs.Asked.{LaneReportTellsStarts}
-use Rattle.report_ledger.specs.Fronts.{LaneFrontsTellLedgers}
-use Rattle.report_ledger.specs.Ledgers.{LaneReportTellsLedger}
-use Rattle.report_ledger.specs.Standings.{LaneReportTellsStandings}
+use Rattle.law_lanes.specs.Along.{IsFitLaneLine}
+use Rattle.law_lanes.specs.Lanes.{no_lanes}
+use Rattle.law_lanes.specs.Parts.{all_points, state_behind}
+use Rattle.law_report_ledger.specs.Asked.{LaneReportTellsStarts}
+use Rattle.law_report_ledger.specs.Fronts.{LaneFrontsTellLedgers}
+use Rattle.law_report_ledger.specs.Ledgers.{LaneReportTellsLedger}
+use Rattle.law_report_ledger.specs.Standings.{LaneReportTellsStandings}
 use Rattle.line_cli.specs.Deeds.{EachFrontTellsItsLedger, EachReportTellsItsLedger, EachReportTellsItsStandings, EachReportTellsItsStarts}
 use Rattle.line_commands.specs.Report.{ending}
 use Rattle.line_commands.specs.Script.{script_of}

@@ -3,12 +3,12 @@ use Rattle.std.proofs.Common.{◌≡◌, ◌++◌, ℕ, List, [], ◌∷◌, Non
 use Rattle.std.proofs.Math.Seq.{take-append_seam}
 use Rattle.line_report.specs.Texts.{unvouched_text}
 use Rattle.line_report.specs.declared.summary.Summary.{Summary}
-use Rattle.line_lanes.specs.Alone.{on_firsts}
-use Rattle.line_lanes.specs.Lanes.{no_lanes}
-use Rattle.line_lanes.specs.Once.{EachLaneScriptHasARun, EachRunTellsOnce}
-use Rattle.line_lanes.specs.Parts.{all_points, state_behind}
-use Rattle.line_lanes.specs.Views.{lanes_text, summary_on}
-use Rattle.line_lanes.proofs.ScriptRuns.{firsts-set}
+use Rattle.law_lanes.specs.Alone.{on_firsts}
+use Rattle.law_lanes.specs.Lanes.{no_lanes}
+use Rattle.law_lanes.specs.Once.{EachLaneScriptHasARun, EachRunTellsOnce}
+use Rattle.law_lanes.specs.Parts.{all_points, state_behind}
+use Rattle.law_lanes.specs.Views.{lanes_text, summary_on}
+use Rattle.law_lanes.proofs.ScriptRuns.{firsts-set}
 use Rattle.made_script.specs.Fold.{fold_of}
 use Rattle.made_script.specs.Script.{made_script}
 use Rattle.line_commands.specs.Report.{ending, report_text}

@@ -1,10 +1,10 @@
 -- A script has one report.
 use Rattle.std.proofs.Common.{◌≡◌, ◌++◌, ℕ, List, Option, Some, None, refl, sym, ap, ◌∙◌}
 use Rattle.line_report.specs.Texts.{summary_text}
-use Rattle.line_lanes.specs.Lanes.{Lanes, no_lanes}
-use Rattle.line_lanes.specs.Once.{EachRunTellsOnce}
-use Rattle.line_lanes.specs.Parts.{all_points, state_behind}
-use Rattle.line_lanes.specs.Views.{lanes_text, summary_on}
+use Rattle.law_lanes.specs.Lanes.{Lanes, no_lanes}
+use Rattle.law_lanes.specs.Once.{EachRunTellsOnce}
+use Rattle.law_lanes.specs.Parts.{all_points, state_behind}
+use Rattle.law_lanes.specs.Views.{lanes_text, summary_on}
 use Rattle.line_commands.specs.Script.{Refusal, script_of}
 use Rattle.line_commands.specs.Report.{IsReport, ending}
 

@@ -4,8 +4,8 @@ use Rattle.std.proofs.lemmas.Option.{none-some}
 use Rattle.std.specs.Str.Lines.{lines}
 use Rattle.line_check.specs.Log.{against}
 use Rattle.line_check.specs.declared.why.CheckWhy.{CheckWhy}
-use Rattle.running_line.specs.Reading.{Behind, Freely, Reading, Strictly}
-use Rattle.running_logs.specs.Right.{IsOfRunning, IsWithin, LogIsRight}
+use Rattle.law_running_line.specs.Reading.{Behind, Freely, Reading, Strictly}
+use Rattle.law_running_logs.specs.Right.{IsOfRunning, IsWithin, LogIsRight}
 use Rattle.line_commands.specs.Command.{DoesAs}
 use Rattle.line_status.specs.declared.status.Status.{Status}
 use Rattle.line_status.specs.declared.status.Status.TheVariants as statuses

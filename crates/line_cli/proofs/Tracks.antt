@@ -1,9 +1,9 @@
 -- On each lane the run of a script that is read is the run of a track.
 use Rattle.std.proofs.Common.{ℕ, List, arith}
-use Rattle.line_lanes.specs.Along.{EachFrontIsATrack, EachLaneIsATrack, EachRecordIsOnOneLane, OneStandingOnLanes}
-use Rattle.line_lanes.specs.Lanes.{no_lanes}
-use Rattle.line_lanes.specs.Parts.{IsLaneRun, IsShort, LanePoint, all_points}
-use Rattle.line_lanes.proofs.ScriptRuns.{run-short}
+use Rattle.law_lanes.specs.Along.{EachFrontIsATrack, EachLaneIsATrack, EachRecordIsOnOneLane, OneStandingOnLanes}
+use Rattle.law_lanes.specs.Lanes.{no_lanes}
+use Rattle.law_lanes.specs.Parts.{IsLaneRun, IsShort, LanePoint, all_points}
+use Rattle.law_lanes.proofs.ScriptRuns.{run-short}
 use Rattle.line_commands.specs.Script.{script_of}
 use Rattle.line_cli.specs.Tracks.{EachFrontIsRun, EachLaneIsRun, EachRecordHasOneLane, EachRecordStandsOnLanes}
 use Rattle.line_commands.proofs.FitScript.{scripts_are_fit}

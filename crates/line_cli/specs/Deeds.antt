@@ -1,15 +1,15 @@
 -- WHAT IS READ OFF A REPORT of a script: of each lane the ledger that its bytes tell, the standings,
 -- and the starts that its openings answer.
 use Rattle.std.specs.Prelude.{◌≤◌, List, [], ℕ}
-use Rattle.line_lanes.specs.Lanes.{no_lanes}
-use Rattle.line_lanes.specs.Parts.{IsLaneRun, LanePoint, all_points, state_behind}
-use Rattle.report_lines.specs.Lines.{lines_in}
-use Rattle.report_ledger.specs.ReportLines.{vouched}
-use Rattle.report_ledger.specs.Asked.{OpensWereAskedOn}
-use Rattle.report_ledger.specs.Fronts.{LaneFrontTells}
-use Rattle.report_ledger.specs.Ledgers.{TellsLaneLedger, honest_on}
-use Rattle.report_lines.specs.Proper.{ArePointsProper}
-use Rattle.report_ledger.specs.Standings.{TellsLaneStandings}
+use Rattle.law_lanes.specs.Lanes.{no_lanes}
+use Rattle.law_lanes.specs.Parts.{IsLaneRun, LanePoint, all_points, state_behind}
+use Rattle.law_report_lines.specs.Lines.{lines_in}
+use Rattle.law_report_ledger.specs.ReportLines.{vouched}
+use Rattle.law_report_ledger.specs.Asked.{OpensWereAskedOn}
+use Rattle.law_report_ledger.specs.Fronts.{LaneFrontTells}
+use Rattle.law_report_ledger.specs.Ledgers.{TellsLaneLedger, honest_on}
+use Rattle.law_report_lines.specs.Proper.{ArePointsProper}
+use Rattle.law_report_ledger.specs.Standings.{TellsLaneStandings}
 use Rattle.line_commands.specs.Report.{IsToldFirst, report_text}
 use Rattle.line_commands.specs.Script.{script_of}
 

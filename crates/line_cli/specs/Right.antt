@@ -1,8 +1,8 @@
 -- THE LOG OF RUNNING MACHINES IS NOT REFUTED.
 use Rattle.std.specs.Prelude.{ℕ, List, Option, None, Some}
 use Rattle.std.specs.Str.Lines.{lines}
-use Rattle.running_line.specs.Reading.{Behind, Freely, Reading, Strictly}
-use Rattle.running_logs.specs.Right.{IsOfRunning, IsWithin}
+use Rattle.law_running_line.specs.Reading.{Behind, Freely, Reading, Strictly}
+use Rattle.law_running_logs.specs.Right.{IsOfRunning, IsWithin}
 use Rattle.line_status.specs.declared.status.Status.{Status}
 use Rattle.line_status.specs.declared.status.Status.TheVariants.{Refuted}
 

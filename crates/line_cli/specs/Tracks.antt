@@ -2,10 +2,10 @@
 -- which the laws over runs speak.
 use Rattle.std.specs.Prelude.{◌≡◌, ◌≤◌, ℕ, false, List, take}
 use Rattle.std.specs.List.{AllByRecursion}
-use Rattle.line_lanes.specs.Along.{IsHonestTrackOf, IsOnOneLane, IsTrackOf, StandsOnEach}
-use Rattle.line_lanes.specs.Lanes.{no_lanes}
-use Rattle.line_lanes.specs.Parts.{IsLaneRun, LanePoint, all_points}
-use Rattle.line_lanes.specs.Views.{has_lie_on}
+use Rattle.law_lanes.specs.Along.{IsHonestTrackOf, IsOnOneLane, IsTrackOf, StandsOnEach}
+use Rattle.law_lanes.specs.Lanes.{no_lanes}
+use Rattle.law_lanes.specs.Parts.{IsLaneRun, LanePoint, all_points}
+use Rattle.law_lanes.specs.Views.{has_lie_on}
 use Rattle.line_commands.specs.Script.{script_of}
 
 -- whatever bytes a script is read from: short on each lane, and up to the first lie on any lane fit,

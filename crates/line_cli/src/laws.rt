@@ -22,7 +22,7 @@ pub fn one_report()
     ensures { (bytes one other : List ℕ) → IsReport bytes one → IsReport bytes other
         → one ≡ other }
 {
-    line_lanes::laws::each_run_tells_once();
+    law_lanes::laws::each_run_tells_once();
 }
 
 /// A number has one make text.
@@ -30,7 +30,7 @@ pub fn one_make_text()
     ensures { (number : ℕ) (one other : List ℕ) → IsMakeText number one → IsMakeText number other
         → one ≡ other }
 {
-    line_lanes::laws::each_run_tells_once();
+    law_lanes::laws::each_run_tells_once();
 }
 
 /// On each lane the run of a script that is read is the run of a track; up to the first line that
@@ -42,7 +42,7 @@ pub fn each_lane_is_run()
     ensures standing { EachRecordStandsOnLanes }
     ensures one_lane { EachRecordHasOneLane }
 {
-    line_lanes::laws::each_lane_is_a_track();
+    law_lanes::laws::each_lane_is_a_track();
 }
 
 /// Whatever words and bytes have one answer of `line_main`, where nothing fails and memory is
@@ -51,6 +51,6 @@ pub fn each_lane_is_run()
 pub fn each_input_has_one_answer()
     ensures { EachInputHasOneAnswer }
 {
-    line_lanes::laws::each_run_tells_once();
-    line_lanes::laws::each_script_on_lanes_has_a_run();
+    law_lanes::laws::each_run_tells_once();
+    law_lanes::laws::each_script_on_lanes_has_a_run();
 }

@@ -3,9 +3,9 @@ use Rattle.std.proofs.Common.{◌≡◌, ◌∙◌, ◌≤◌, ◌<◌, ℕ, Boo
 use Rattle.std.specs.Str.Lines.{lines}
 use Rattle.std.proofs.lemmas.Bool.Decides.{nat_tests}
 use Rattle.line_check.specs.Log.{against}
-use Rattle.line_lanes.specs.Once.{EachLaneScriptHasARun, EachRunTellsOnce}
-use Rattle.line_lanes.specs.Parts.{all_points}
-use Rattle.line_lanes.specs.Views.{has_lie_on}
+use Rattle.law_lanes.specs.Once.{EachLaneScriptHasARun, EachRunTellsOnce}
+use Rattle.law_lanes.specs.Parts.{all_points}
+use Rattle.law_lanes.specs.Views.{has_lie_on}
 use Rattle.line_commands.specs.Answered.{Answers, EachInputHasOneAnswer, IsAnswered, IsScriptAnswer, answered, log_answer, memory_wanted, sink_failed, source_failed, stream_answer}
 use Rattle.line_commands.specs.Checking.{Checks}
 use Rattle.line_commands.specs.Command.{DoesAs, RunsScript, status_of}

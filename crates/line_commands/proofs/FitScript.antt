@@ -23,8 +23,8 @@ use Rattle.line_script.specs.declared.words.AskedBy.TheVariants as bys
 use Rattle.line_script.proofs.Said.{SayAll, SayAllOk, arguments_say}
 use Rattle.line_commands.specs.Premises.{ScriptsAreFit}
 use Rattle.line_commands.specs.Script.{Script, before_all, either, meaning_at, refused_at, script_from, script_of}
-use Rattle.line_lanes.specs.Along.{IsFitLaneLine}
-use Rattle.one_standing.specs.Standing.{IsFitLine}
+use Rattle.law_lanes.specs.Along.{IsFitLaneLine}
+use Rattle.law_one_standing.specs.Standing.{IsFitLine}
 
 -- an answer is a refusal, or a line whose texts are texts
 abbrev Fit : Result LaneLine LineWhy → Type 0

@@ -12,14 +12,14 @@ use Rattle.line_report.specs.Lanes.{entries_on}
 use Rattle.line_report.specs.declared.happening.LaneHappening.{LaneHappening}
 use Rattle.line_report.specs.Texts.{summary_text, unvouched_text}
 use Rattle.line_report.specs.declared.summary.Summary.{Summary}
-use Rattle.line_lanes.specs.Alone.{on_first, on_firsts}
-use Rattle.line_lanes.specs.Lanes.{Lanes, lines_of, no_lanes}
-use Rattle.line_lanes.specs.Parts.{IsLaneRun, LaneLineSteps, LanePoint, all_points}
-use Rattle.line_lanes.specs.Views.{lanes_text, summary_on}
-use Rattle.line_lanes.proofs.ScriptRuns.{RunsOn, line-counted, one-told, run-one, runs-on, runs-told}
+use Rattle.law_lanes.specs.Alone.{on_first, on_firsts}
+use Rattle.law_lanes.specs.Lanes.{Lanes, lines_of, no_lanes}
+use Rattle.law_lanes.specs.Parts.{IsLaneRun, LaneLineSteps, LanePoint, all_points}
+use Rattle.law_lanes.specs.Views.{lanes_text, summary_on}
+use Rattle.law_lanes.proofs.ScriptRuns.{RunsOn, line-counted, one-told, run-one, runs-on, runs-told}
 use Rattle.made_script.specs.Fold.{fold_byte, fold_from, fold_of}
 use Rattle.made_script.specs.Script.{made_script}
-use Rattle.report_lines.specs.Proper.{AreProperOn}
+use Rattle.law_report_lines.specs.Proper.{AreProperOn}
 use Rattle.line_commands.specs.Report.{report_text}
 use Rattle.line_commands.specs.Reader.{DoesAsked, Sums}
 use Rattle.line_commands.specs.Making.{IsFolding, IsLastLine, IsMakeText}

@@ -3,11 +3,11 @@
 use Rattle.std.proofs.Common.{◌≡◌, ◌∙◌, ◌+◌, ◌++◌, ℕ, List, append_assoc, ap, refl, subst, sym}
 use Rattle.std.specs.List.{AllByRecursion}
 use Rattle.line_script.specs.declared.line.LaneLine.{LaneLine}
-use Rattle.line_lanes.specs.Lanes.{lines_of, no_lanes}
-use Rattle.line_lanes.specs.Once.{EachLaneScriptHasARun, EachRunRemembers, EachRunTellsOnce, SetsFew}
-use Rattle.line_lanes.specs.Parts.{IsLaneRun, LanePoint, all_points, state_behind}
-use Rattle.line_lanes.specs.Views.{lanes_text}
-use Rattle.line_lanes.proofs.ScriptRuns.{RunsOn, fits-set, run-apart, runs-told}
+use Rattle.law_lanes.specs.Lanes.{lines_of, no_lanes}
+use Rattle.law_lanes.specs.Once.{EachLaneScriptHasARun, EachRunRemembers, EachRunTellsOnce, SetsFew}
+use Rattle.law_lanes.specs.Parts.{IsLaneRun, LanePoint, all_points, state_behind}
+use Rattle.law_lanes.specs.Views.{lanes_text}
+use Rattle.law_lanes.proofs.ScriptRuns.{RunsOn, fits-set, run-apart, runs-told}
 use Rattle.line_commands.specs.Report.{BeginsReport, EachScriptHasOneReport, IsReport, ending, report_text}
 use Rattle.line_commands.specs.Script.{script_of}
 use Rattle.line_commands.proofs.FitScript.{scripts_are_fit}

@@ -7,13 +7,13 @@ use Rattle.line_outside.proofs.Growing.{grows_none, grows_more, rose_after}
 use Rattle.line_script.specs.declared.line.LineWhy.{LineWhy}
 use Rattle.line_script.specs.declared.line.LaneLine.{LaneLine}
 use Rattle.line_report.specs.Texts.{summary_text}
-use Rattle.line_lanes.specs.Lanes.{Lanes, lines_of, no_lanes, unvouched_of}
-use Rattle.line_lanes.specs.Parts.{IsLaneRun, LanePoint, all_points, state_behind}
-use Rattle.line_lanes.specs.Views.{has_lie_on, lanes_text, summary_on}
-use Rattle.line_lanes.proofs.ScriptRuns.{RunsOn, behind-append, points-append, run-append, runs-on, runs-told}
+use Rattle.law_lanes.specs.Lanes.{Lanes, lines_of, no_lanes, unvouched_of}
+use Rattle.law_lanes.specs.Parts.{IsLaneRun, LanePoint, all_points, state_behind}
+use Rattle.law_lanes.specs.Views.{has_lie_on, lanes_text, summary_on}
+use Rattle.law_lanes.proofs.ScriptRuns.{RunsOn, behind-append, points-append, run-append, runs-on, runs-told}
 use Rattle.line_commands.specs.Texts.{refused_text}
 use Rattle.line_commands.specs.Script.{Script, Refusal, script_of, behind_lines}
-use Rattle.report_lines.specs.Proper.{ArePointsProper}
+use Rattle.law_report_lines.specs.Proper.{ArePointsProper}
 use Rattle.line_commands.specs.Report.{ending, report_text}
 use Rattle.line_commands.specs.LineEnds.{HasNoEnd}
 use Rattle.line_commands.specs.Reader.{Place, Advances, Takes, Refuses, RefusesIn, SumsUp, Finishes, script_behind}

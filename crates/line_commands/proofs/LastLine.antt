@@ -4,12 +4,12 @@ use Rattle.line_script.specs.Words.{why_text}
 use Rattle.line_script.specs.declared.line.LineWhy.{LineWhy}
 use Rattle.line_report.specs.Texts.{summary_text, unvouched_text}
 use Rattle.line_report.specs.declared.summary.Summary.{Summary}
-use Rattle.line_lanes.specs.Lanes.{Lanes}
-use Rattle.line_lanes.specs.Views.{summary_on}
+use Rattle.law_lanes.specs.Lanes.{Lanes}
+use Rattle.law_lanes.specs.Views.{summary_on}
 use Rattle.machine_log.proofs.Inner.{inner, inner_why}
 use Rattle.machine_log.proofs.Solid.{inner_decimal, is_inner, join}
-use Rattle.report_lines.specs.Lines.{AreUnnumbered, line_of, lines_in}
-use Rattle.report_lines.proofs.Lines.{line_read}
+use Rattle.law_report_lines.specs.Lines.{AreUnnumbered, line_of, lines_in}
+use Rattle.law_report_lines.proofs.Lines.{line_read}
 use Rattle.line_commands.specs.Report.{ending}
 use Rattle.line_commands.specs.Script.{Refusal}
 use Rattle.line_commands.specs.Texts.{refused_text}

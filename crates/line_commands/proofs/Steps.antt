@@ -10,11 +10,11 @@ use Rattle.line_script.specs.declared.line.LineWhy.TheVariants as whys
 use Rattle.line_report.specs.Texts.{summary_text}
 use Rattle.line_report.specs.Lanes.{entries_on}
 use Rattle.line_report.specs.declared.happening.LaneHappening.{LaneHappening}
-use Rattle.line_lanes.specs.Lanes.{Lanes, lines_of}
-use Rattle.line_lanes.specs.Parts.{IsLaneRun, LanePoint, all_points, all_told}
-use Rattle.line_lanes.specs.Views.{lanes_text, summary_on}
-use Rattle.line_lanes.proofs.ScriptRuns.{RunsOn, line-counted, one-told, points-append, run-append, run-one, runs-on, runs-told}
-use Rattle.report_lines.specs.Proper.{AreProperOn, ArePointsProper, IsProperOn}
+use Rattle.law_lanes.specs.Lanes.{Lanes, lines_of}
+use Rattle.law_lanes.specs.Parts.{IsLaneRun, LanePoint, all_points, all_told}
+use Rattle.law_lanes.specs.Views.{lanes_text, summary_on}
+use Rattle.law_lanes.proofs.ScriptRuns.{RunsOn, line-counted, one-told, points-append, run-append, run-one, runs-on, runs-told}
+use Rattle.law_report_lines.specs.Proper.{AreProperOn, ArePointsProper, IsProperOn}
 use Rattle.line_commands.specs.LineEnds.{HasNoEnd}
 use Rattle.line_commands.specs.Texts.{refused_text}
 use Rattle.line_commands.specs.Script.{Script, meaning_at, script_from, behind_lines}

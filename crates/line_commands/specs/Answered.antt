@@ -4,9 +4,9 @@ use Rattle.std.specs.Prelude.{◌≡◌, ℕ, Bool, true, false, List, Option, S
 use Rattle.std.specs.Str.Lines.{lines}
 use Rattle.line_check.specs.Log.{Against, against}
 use Rattle.line_outside.specs.Faults.{Rises}
-use Rattle.line_lanes.specs.Lanes.{no_lanes}
-use Rattle.line_lanes.specs.Parts.{IsLaneRun, LanePoint, all_points}
-use Rattle.line_lanes.specs.Views.{has_lie_on}
+use Rattle.law_lanes.specs.Lanes.{no_lanes}
+use Rattle.law_lanes.specs.Parts.{IsLaneRun, LanePoint, all_points}
+use Rattle.law_lanes.specs.Views.{has_lie_on}
 use Rattle.line_commands.specs.Command.{status_of}
 use Rattle.stream_text.specs.ReadText.{most_read}
 use Rattle.line_commands.specs.Script.{script_of}

@@ -4,11 +4,11 @@ use Rattle.line_outside.specs.Sink.{Grows, PushesAll}
 use Rattle.line_outside.specs.declared.pushing.Pushed.{Pushed}
 use Rattle.line_commands.specs.Script.{Refusal, script_of}
 use Rattle.line_commands.specs.Report.{IsToldFirst, BeginsReport, report_text}
-use Rattle.report_lines.specs.Proper.{ArePointsProper}
+use Rattle.law_report_lines.specs.Proper.{ArePointsProper}
 use Rattle.line_commands.specs.Stops.{StopsIn}
-use Rattle.line_lanes.specs.Lanes.{no_lanes}
-use Rattle.line_lanes.specs.Parts.{IsLaneRun, LanePoint, all_points}
-use Rattle.line_lanes.specs.Views.{has_lie_on}
+use Rattle.law_lanes.specs.Lanes.{no_lanes}
+use Rattle.law_lanes.specs.Parts.{IsLaneRun, LanePoint, all_points}
+use Rattle.law_lanes.specs.Views.{has_lie_on}
 use Rattle.stream_text.specs.Stream.{IsReadStatus, Reads}
 use Rattle.line_commands.specs.Checking.{Checks}
 use Rattle.line_commands.specs.Making.{Makes, IsMakeStatus}

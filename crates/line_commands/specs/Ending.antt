@@ -2,10 +2,10 @@ use Rattle.std.specs.Prelude.{◌≡◌, ◌≤◌, ◌++◌, ℕ, Bool, true, f
 use Rattle.line_outside.specs.Faults.{Rose}
 use Rattle.line_outside.specs.Sink.{Grows, GrowsInPart}
 use Rattle.line_script.specs.declared.line.LaneLine.{LaneLine}
-use Rattle.line_lanes.specs.Lanes.{no_lanes}
-use Rattle.line_lanes.specs.Parts.{IsLaneRun, LanePoint, all_points, state_behind}
-use Rattle.line_lanes.specs.Views.{lanes_text}
-use Rattle.report_lines.specs.Proper.{ArePointsProper}
+use Rattle.law_lanes.specs.Lanes.{no_lanes}
+use Rattle.law_lanes.specs.Parts.{IsLaneRun, LanePoint, all_points, state_behind}
+use Rattle.law_lanes.specs.Views.{lanes_text}
+use Rattle.law_report_lines.specs.Proper.{ArePointsProper}
 use Rattle.line_commands.specs.Script.{script_of, behind_lines}
 use Rattle.line_commands.specs.Reader.{Place, script_behind}
 use Rattle.line_commands.specs.declared.script_run.RunError.{RunError}

@@ -7,10 +7,10 @@ use Rattle.line_script.specs.Words.{number_in}
 use Rattle.line_script.specs.declared.line.LineWhy.{LineWhy}
 use Rattle.line_script.specs.declared.line.ScriptLine.{ScriptLine}
 use Rattle.line_report.specs.Texts.{summary_text}
-use Rattle.line_lanes.specs.Alone.{on_firsts}
-use Rattle.line_lanes.specs.Lanes.{Lanes, lines_of, no_lanes}
-use Rattle.line_lanes.specs.Parts.{IsLaneRun, LanePoint, all_points, state_behind}
-use Rattle.line_lanes.specs.Views.{lanes_text, summary_on}
+use Rattle.law_lanes.specs.Alone.{on_firsts}
+use Rattle.law_lanes.specs.Lanes.{Lanes, lines_of, no_lanes}
+use Rattle.law_lanes.specs.Parts.{IsLaneRun, LanePoint, all_points, state_behind}
+use Rattle.law_lanes.specs.Views.{lanes_text, summary_on}
 use Rattle.made_script.specs.Fold.{fold_from, fold_of}
 use Rattle.made_script.specs.Script.{made_script}
 use Rattle.line_commands.specs.Report.{report_text}

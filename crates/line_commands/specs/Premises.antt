@@ -2,7 +2,7 @@
 use Rattle.std.specs.Prelude.{List, length, ℕ, ◌≤◌}
 use Rattle.std.specs.List.{AllByRecursion}
 use Rattle.line_script.specs.declared.line.LaneLine.{LaneLine}
-use Rattle.line_lanes.specs.Along.{IsFitLaneLine}
+use Rattle.law_lanes.specs.Along.{IsFitLaneLine}
 use Rattle.line_commands.specs.Script.{script_of}
 
 -- the barcodes of its lines are texts, and it has at most 1,000,000 lines

@@ -5,10 +5,10 @@ use Rattle.line_script.specs.declared.line.LaneLine.{LaneLine}
 use Rattle.line_report.specs.Lanes.{entries_on}
 use Rattle.line_report.specs.Texts.{summary_text}
 use Rattle.line_report.specs.declared.happening.LaneHappening.{LaneHappening}
-use Rattle.line_lanes.specs.Lanes.{Lanes, lines_of}
-use Rattle.line_lanes.specs.Parts.{IsLaneRun, LaneLineSteps, LanePoint, all_points, state_behind}
-use Rattle.line_lanes.specs.Views.{lanes_text, summary_on}
-use Rattle.report_lines.specs.Proper.{AreProperOn, ArePointsProper}
+use Rattle.law_lanes.specs.Lanes.{Lanes, lines_of}
+use Rattle.law_lanes.specs.Parts.{IsLaneRun, LaneLineSteps, LanePoint, all_points, state_behind}
+use Rattle.law_lanes.specs.Views.{lanes_text, summary_on}
+use Rattle.law_report_lines.specs.Proper.{AreProperOn, ArePointsProper}
 use Rattle.line_commands.specs.Texts.{refused_text}
 use Rattle.line_commands.specs.Script.{Script, meaning_at, script_from, behind_lines}
 use Rattle.line_commands.specs.declared.script_run.RunError.{RunError}

@@ -2,11 +2,11 @@
 use Rattle.std.specs.Prelude.{◌≡◌, ℕ, ◌++◌, List, Option, None, Some}
 use Rattle.line_report.specs.Texts.{summary_text}
 use Rattle.line_script.specs.declared.line.LaneLine.{LaneLine}
-use Rattle.report_lines.specs.Lines.{AreUnnumbered, lines_in}
-use Rattle.report_lines.specs.Proper.{ArePointsProper}
-use Rattle.line_lanes.specs.Lanes.{Lanes, no_lanes}
-use Rattle.line_lanes.specs.Parts.{IsLaneRun, LanePoint, all_points, state_behind}
-use Rattle.line_lanes.specs.Views.{lanes_text, summary_on}
+use Rattle.law_report_lines.specs.Lines.{AreUnnumbered, lines_in}
+use Rattle.law_report_lines.specs.Proper.{ArePointsProper}
+use Rattle.law_lanes.specs.Lanes.{Lanes, no_lanes}
+use Rattle.law_lanes.specs.Parts.{IsLaneRun, LanePoint, all_points, state_behind}
+use Rattle.law_lanes.specs.Views.{lanes_text, summary_on}
 use Rattle.line_commands.specs.Texts.{refused_text}
 use Rattle.line_commands.specs.Script.{Refusal, script_of}
 

@@ -1,8 +1,8 @@
 //! The made script of a number: how its report ends, and the fold of the whole.
 
 ghost use Rattle.std.specs.Prelude.{◌≡◌, ◌≤◌, ◌<◌, ℕ, [], false, IfOk, IfSome, OnOk};
-ghost use Rattle.line_lanes.specs.Alone.{on_first};
-ghost use Rattle.line_lanes.specs.Lanes.{lines_of, no_lanes};
+ghost use Rattle.law_lanes.specs.Alone.{on_first};
+ghost use Rattle.law_lanes.specs.Lanes.{lines_of, no_lanes};
 ghost use Rattle.line_script.specs.Ranges.{IsWithin};
 ghost use Rattle.made_script.specs.Fold.{fold_from};
 ghost use Rattle.made_script.specs.Script.{made_script};

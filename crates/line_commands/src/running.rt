@@ -1,5 +1,5 @@
 ghost use Rattle.std.specs.Prelude.{◌≡◌, ◌<◌, ◌≤◌, [], length};
-ghost use Rattle.line_lanes.specs.Lanes.{no_lanes};
+ghost use Rattle.law_lanes.specs.Lanes.{no_lanes};
 ghost use Rattle.line_commands.specs.Command.{Runs, IsRunStatus};
 ghost use Rattle.line_status.specs.Status.{HasCauses};
 ghost use Rattle.line_commands.specs.Reader.{IsNumbered};
@@ -19,9 +19,9 @@ pub fn run_script<S: Source, K: Sink>(alloc: Global, script: &mut S, report: &mu
     ensures causes { HasCauses result (S.faults script.old) (S.faults script.new)
         (K.faults report.old) (K.faults report.new) }
 {
-    line_lanes::laws::each_script_on_lanes_has_a_run();
-    line_lanes::laws::each_run_tells_once();
-    line_lanes::laws::each_run_remembers_its_lies();
+    law_lanes::laws::each_script_on_lanes_has_a_run();
+    law_lanes::laws::each_run_tells_once();
+    law_lanes::laws::each_run_remembers_its_lies();
     let mut room = match vec![in alloc; 0u8; PIECE_BYTES] {
         Ok(room) => room,
         Err(_) => return Status::Memory,
@@ -51,9 +51,9 @@ fn run_pieces<S: Source, K: Sink>(
     ensures causes { HasCauses result (S.faults script.old) (S.faults script.new)
         (K.faults report.old) (K.faults report.new) }
 {
-    line_lanes::laws::each_script_on_lanes_has_a_run();
-    line_lanes::laws::each_run_tells_once();
-    line_lanes::laws::each_run_remembers_its_lies();
+    law_lanes::laws::each_script_on_lanes_has_a_run();
+    law_lanes::laws::each_run_tells_once();
+    law_lanes::laws::each_run_remembers_its_lies();
     loop {
         match script.pull(room) {
             Pull::Bytes(count) => {

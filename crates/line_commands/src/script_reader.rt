@@ -1,6 +1,6 @@
 ghost use Rattle.std.specs.Prelude.{◌≡◌, ◌≤◌, [], ◌∷◌, ◌++◌, IfErr, IfNone, IfSome, OnOk, false, is_some, vec_len};
 ghost use Rattle.std.specs.Str.Lines.{strip_carriage_return};
-ghost use Rattle.line_lanes.specs.Lanes.{lines_of, no_lanes, unvouched_of};
+ghost use Rattle.law_lanes.specs.Lanes.{lines_of, no_lanes, unvouched_of};
 ghost use Rattle.line_commands.specs.Reader.{Place, Takes, Finishes, IsNumbered, progress_of};
 ghost use Rattle.line_commands.specs.LineEnds.{HasNoEnd, IsFirstEnd, CutsLine};
 

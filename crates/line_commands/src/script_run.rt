@@ -1,13 +1,13 @@
 ghost use Rattle.std.specs.Prelude.{◌≡◌, ◌<◌, ◌≤◌, ◌+◌, IfErr, OnOk, false, is_some};
-ghost use Rattle.line_lanes.specs.Lanes.{lines_of, no_lanes, unvouched_of};
+ghost use Rattle.law_lanes.specs.Lanes.{lines_of, no_lanes, unvouched_of};
 ghost use Rattle.line_script.specs.Ranges.{IsLaneWithin};
 ghost use Rattle.line_commands.specs.Reader.{DoesAsked, DoesLine, IsNumbered, RefusesAs, Sums};
 
+use law_report_lines::lanes_are_proper;
 use line_base::Memory;
 use line_engine::Line;
 use line_report::{write_all, write_summary};
 use line_script::{LaneLine, LineError, LineWhy, MOST_LINE_BYTES, read_line};
-use report_lines::lanes_are_proper;
 use std::alloc::Global;
 use std::io::Write;
 use std::marker::Model;
@@ -34,7 +34,7 @@ pub struct ScriptRun {
 
 impl Model for ScriptRun {
     ghost use Rattle.std.specs.Prelude.{◌≡◌, ◌≤◌, false};
-    ghost use Rattle.line_lanes.specs.Lanes.{Lanes, lines_of};
+    ghost use Rattle.law_lanes.specs.Lanes.{Lanes, lines_of};
 
     ghost Value = { Lanes };
 

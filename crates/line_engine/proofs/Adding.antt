@@ -15,9 +15,9 @@ use Rattle.line_step.specs.Reasons.{may_add, may_do, no_if}
 use Rattle.line_step.specs.Requests.{added_told, adds}
 use Rattle.line_step.specs.State.{LineState, machine_in, most_machines, one_more, owned_by, profile_of}
 use Rattle.line_step.proofs.Keeps.{more_together, not_full}
-use Rattle.line_lanes.specs.Lanes.{Lanes}
-use Rattle.line_lanes.specs.Shown.{standings_on}
-use Rattle.line_lanes.specs.Steps.{Becomes, RequestDoes, more_on, told_once}
+use Rattle.law_lanes.specs.Lanes.{Lanes}
+use Rattle.law_lanes.specs.Shown.{standings_on}
+use Rattle.law_lanes.specs.Steps.{Becomes, RequestDoes, more_on, told_once}
 use Rattle.line_marks.specs.Indexed.{indexed, marks_listed}
 use Rattle.line_machines.specs.Sharing.{AreNumbered}
 use Rattle.line_engine.specs.Sharing.{grown}

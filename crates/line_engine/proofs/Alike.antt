@@ -11,7 +11,7 @@ use Rattle.node_core.specs.Sides.{is_open}
 use Rattle.standings.specs.Marks.{Owned}
 use Rattle.line_step.specs.State.{LineState, machine_in, owned, owned_by}
 use Rattle.line_step.specs.Together.{IsLineTogether, is_linked}
-use Rattle.line_lanes.specs.Lanes.{beside, beside_nodes}
+use Rattle.law_lanes.specs.Lanes.{beside, beside_nodes}
 use Rattle.line_marks.specs.Indexed.{Entries, IsIndexOf}
 use Rattle.line_machines.specs.Sharing.{AreNumbered}
 use Rattle.line_engine.specs.Tracks.{AreKept, AreLike, IsLike, IsOwn, states_of, with_behind}

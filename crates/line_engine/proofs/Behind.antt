@@ -13,12 +13,12 @@ use Rattle.line_step.specs.Requests.{Request}
 use Rattle.line_step.proofs.Newcomers.{newcomers-append, newcomers-take}
 use Rattle.line_step.proofs.Running.{short-behind, short-more}
 use Rattle.line_step.proofs.Vouching.{none_lied, unvouched-before}
-use Rattle.one_standing.specs.Blame.{AreBlamesTrue, IsBlameTrue, NoFalseBlame}
-use Rattle.contents_kept.specs.Records.{AreContentsKept, ContentsAreKept, IsChanged, KeepsContents}
-use Rattle.one_standing.specs.Reached.{IsReached}
-use Rattle.one_standing.specs.Standing.{IsFitRequest, IsFitTrack}
-use Rattle.one_standing.proofs.Reaching.{behind_more, run_more, fit_more}
-use Rattle.line_openings.specs.Announced.{OpensAsAnnounced, OpensWhenAnnounced}
+use Rattle.law_one_standing.specs.Blame.{AreBlamesTrue, IsBlameTrue, NoFalseBlame}
+use Rattle.law_sentences.specs.Records.{AreContentsKept, ContentsAreKept, IsChanged, KeepsContents}
+use Rattle.law_one_standing.specs.Reached.{IsReached}
+use Rattle.law_one_standing.specs.Standing.{IsFitRequest, IsFitTrack}
+use Rattle.law_one_standing.proofs.Reaching.{behind_more, run_more, fit_more}
+use Rattle.law_sentences.specs.Announced.{OpensAsAnnounced, OpensWhenAnnounced}
 use Rattle.line_engine.specs.Blames.{BlamesNext}
 use Rattle.line_engine.specs.Opens.{OpensNext}
 

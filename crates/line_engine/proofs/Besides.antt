@@ -16,7 +16,7 @@ use Rattle.line_step.specs.Steps.{MachineSteps}
 use Rattle.line_step.proofs.Ascending.{choose_false, choose_true}
 use Rattle.line_step.proofs.Turns.{LineTurns, line_turns}
 use Rattle.line_step.proofs.Turns as turns
-use Rattle.line_lanes.specs.Lanes.{beside, beside_nodes, tracks_with}
+use Rattle.law_lanes.specs.Lanes.{beside, beside_nodes, tracks_with}
 use Rattle.line_machines.specs.Given.{is_of_lane}
 use Rattle.line_machines.proofs.Numbering.{is_adding, not_adding}
 use Rattle.line_marks.specs.Stepped.{first_stepped, last_stepped}

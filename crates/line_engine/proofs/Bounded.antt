@@ -1,8 +1,8 @@
 -- A line that a run has led to is within its bounds.
 use Rattle.std.proofs.Common.{subst}
 use Rattle.line_step.specs.State.{LineState}
-use Rattle.one_standing.specs.Reached.{IsReached}
-use Rattle.line_bounds.specs.Within.{AreLinksWithin, EachLinkStaysWithin, EachMachineStaysWithin, IsBounded, StaysWithin}
+use Rattle.law_one_standing.specs.Reached.{IsReached}
+use Rattle.law_sentences.specs.Within.{AreLinksWithin, EachLinkStaysWithin, EachMachineStaysWithin, IsBounded, StaysWithin}
 
 pub bounded_behind : EachMachineStaysWithin → EachLinkStaysWithin → (s : LineState) → IsReached s → IsBounded s
 bounded_behind machines links s reached = record {

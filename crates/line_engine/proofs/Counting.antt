@@ -7,9 +7,9 @@ use Rattle.line_step.specs.Lines.{Counts}
 use Rattle.line_step.specs.Parts.{count_behind}
 use Rattle.line_step.specs.State.{LineState}
 use Rattle.line_step.proofs.Counted.{rises}
-use Rattle.line_lanes.specs.Lanes.{counted, lines_of}
-use Rattle.line_lanes.specs.Shown.{standings_on}
-use Rattle.line_lanes.specs.Steps.{LanesDo}
+use Rattle.law_lanes.specs.Lanes.{counted, lines_of}
+use Rattle.law_lanes.specs.Shown.{standings_on}
+use Rattle.law_lanes.specs.Steps.{LanesDo}
 use Rattle.line_engine.specs.Each.{GoesOn}
 use Rattle.line_engine.specs.Sharing.{counted_track}
 use Rattle.line_engine.specs.Tracks.{AreKept, AreLike, IsLike, IsOwn, TellsDone, lanes_of, states_of}

@@ -1,7 +1,7 @@
 -- A lane is there exactly where it has a track.
 use Rattle.std.proofs.Common.{◌≡◌, ◌∙◌, ◌-◌, ◌<◌, ◌≤◌, ◌&&◌, ℕ, Bool, true, zero, suc, List, [], ◌∷◌, ap, arith, length, refl, subst, sym}
 use Rattle.std.specs.Prelude.{IsSomeAnd, Option, None, Some, Err, is_some, nat_le, nat_lt, not, slice_get, slice_index_or, slice_set}
-use Rattle.line_lanes.specs.Lanes.{has_lane}
+use Rattle.law_lanes.specs.Lanes.{has_lane}
 use Rattle.line_report.specs.declared.happening.Reason.{Reason}
 use Rattle.line_step.specs.Reasons.{may_do, no_if}
 use Rattle.line_engine.specs.Tracks.{lanes_of, states_of, track_in, with_behind}

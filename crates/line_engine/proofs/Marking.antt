@@ -3,7 +3,7 @@ use Rattle.std.proofs.Common.{◌≡◌, ◌∙◌, ◌+◌, ◌-◌, ◌<◌, �
 use Rattle.std.proofs.lemmas.Bool.{cases_lt, cases_order}
 use Rattle.std.proofs.lemmas.List.{get_or_past}
 use Rattle.line_step.specs.State.{LineState, marks_in}
-use Rattle.line_lanes.specs.Lanes.{Lanes, empty_track, track}
+use Rattle.law_lanes.specs.Lanes.{Lanes, empty_track, track}
 use Rattle.line_marks.specs.AllMarks.{AreOnLanesTo, AreOrdered, IsWithMarks, of_lane}
 use Rattle.line_marks.specs.declared.all_marks.LaneMark.{LaneMark}
 use Rattle.line_marks.proofs.Marking.{none_beyond}

@@ -1,24 +1,24 @@
 -- What the laws over the next line of a track say, in each state of a line of the script.
 use Rattle.std.proofs.Common.{List, [], ap, append-nil, append_assoc, refl, subst, sym, true, false, Bool, ℕ, zero, suc, arith, length, ◌++◌, ◌+◌, ◌-◌, ◌∙◌, ◌∷◌, ◌≡◌, ◌≤◌}
 use Rattle.std.specs.List.{AllByRecursion}
-use Rattle.contents_kept.specs.Records.{ContentsAreKept}
-use Rattle.first_in_first_out.specs.Along.{OrderAlong}
+use Rattle.law_sentences.specs.Records.{ContentsAreKept}
+use Rattle.law_sentences.specs.Along.{OrderAlong}
 use Rattle.line_script.specs.declared.line.LaneLine.{LaneLine}
 use Rattle.line_script.specs.declared.line.LaneLine.TheVariants as lane_lines
 use Rattle.line_script.specs.declared.line.ScriptLine.TheVariants as lines
 use Rattle.line_report.specs.declared.happening.LaneHappening.{LaneHappening}
-use Rattle.line_openings.specs.Announced.{OpensWhenAnnounced}
+use Rattle.law_sentences.specs.Announced.{OpensWhenAnnounced}
 use Rattle.line_step.specs.Parts.{count_behind}
 use Rattle.line_step.specs.State.{LineState}
-use Rattle.one_standing.specs.Blame.{NoFalseBlame}
-use Rattle.one_standing.specs.Reached.{IsReached, LedgerAlong}
-use Rattle.supervisor_replay.specs.Along.{AgreesAlong}
-use Rattle.work_orders.specs.Answers.{EachLineAnswersOnce}
-use Rattle.line_lanes.specs.Along.{IsFitLaneLine}
-use Rattle.line_lanes.specs.Lanes.{Lanes, lines_of, no_lanes, track}
-use Rattle.line_lanes.specs.Parts.{IsLanePlay, IsLaneRun, IsShort, LaneLineSteps, LanePart, LanePoint, all_points, parts_of, state_behind, stops_from}
-use Rattle.line_lanes.specs.Along.{IsLaneReached}
-use Rattle.line_lanes.specs.Reached.{AreReached, EachPartIsReached}
+use Rattle.law_one_standing.specs.Blame.{NoFalseBlame}
+use Rattle.law_one_standing.specs.Reached.{IsReached, LedgerAlong}
+use Rattle.law_supervisor_replay.specs.Along.{AgreesAlong}
+use Rattle.law_sentences.specs.Answers.{EachLineAnswersOnce}
+use Rattle.law_lanes.specs.Along.{IsFitLaneLine}
+use Rattle.law_lanes.specs.Lanes.{Lanes, lines_of, no_lanes, track}
+use Rattle.law_lanes.specs.Parts.{IsLanePlay, IsLaneRun, IsShort, LaneLineSteps, LanePart, LanePoint, all_points, parts_of, state_behind, stops_from}
+use Rattle.law_lanes.specs.Along.{IsLaneReached}
+use Rattle.law_lanes.specs.Reached.{AreReached, EachPartIsReached}
 use Rattle.line_engine.proofs.Played.{behind_on}
 use Rattle.line_engine.specs.Each.{AtEach, EachLaneNow, EachNext}
 use Rattle.line_engine.specs.Next.{AnswersNext, BlameNext, ContentsNext, LedgerNext, OpeningsNext, OrderNext, ReplayNext}

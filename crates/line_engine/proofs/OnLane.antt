@@ -22,10 +22,10 @@ use Rattle.line_step.specs.Shown.{ascending}
 use Rattle.line_step.specs.State.{LineState, marks_in, owned}
 use Rattle.line_step.proofs.ChangedStandings.{line_stays}
 use Rattle.line_step.proofs.Keeps.{does_together, lines_stay}
-use Rattle.line_lanes.specs.Lanes.{Lanes, beside, empty_track, lines_of, track, tracks_with}
-use Rattle.line_lanes.specs.Reasons.{may_on}
-use Rattle.line_lanes.specs.Shown.{standings_on}
-use Rattle.line_lanes.specs.Steps.{OnTrack, RequestDoes, Unless, told_once}
+use Rattle.law_lanes.specs.Lanes.{Lanes, beside, empty_track, lines_of, track, tracks_with}
+use Rattle.law_lanes.specs.Reasons.{may_on}
+use Rattle.law_lanes.specs.Shown.{standings_on}
+use Rattle.law_lanes.specs.Steps.{OnTrack, RequestDoes, Unless, told_once}
 use Rattle.line_machines.specs.Given.{is_of_lane}
 use Rattle.line_marks.specs.Indexed.{Entries, Follows, IsIndexOf, marks_in_entry, marks_listed}
 use Rattle.line_marks.specs.Seats.{both, own_seat}

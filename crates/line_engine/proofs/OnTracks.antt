@@ -13,17 +13,17 @@ use Rattle.line_step.specs.State.{LineState, no_line}
 use Rattle.line_step.specs.Tracks.{TrackLine, TrackSteps}
 use Rattle.line_step.proofs.Newcomers.{newcomers-append, run-vouched}
 use Rattle.line_step.proofs.Running.{short-more}
-use Rattle.one_standing.specs.Reached.{IsReached}
-use Rattle.one_standing.specs.Standing.{IsFitTrack}
-use Rattle.one_standing.proofs.Reaching.{behind_more, fit_more, run_more}
-use Rattle.line_lanes.specs.Along.{ArePointsOn, EachLaneIsATrack, IsFitLaneLine, IsTrackOf}
-use Rattle.line_lanes.specs.Lanes.{Lanes, no_lanes, track, unvouched_of}
-use Rattle.line_lanes.specs.Once.{EachRunRemembers, SetsFew}
-use Rattle.line_lanes.specs.Parts.{LanePoint, all_points}
-use Rattle.line_lanes.specs.Parts as lanes
-use Rattle.line_lanes.specs.Views.{has_lie_on}
-use Rattle.line_lanes.proofs.Points.{take_past}
-use Rattle.line_lanes.proofs.Together.{none_track}
+use Rattle.law_one_standing.specs.Reached.{IsReached}
+use Rattle.law_one_standing.specs.Standing.{IsFitTrack}
+use Rattle.law_one_standing.proofs.Reaching.{behind_more, fit_more, run_more}
+use Rattle.law_lanes.specs.Along.{ArePointsOn, EachLaneIsATrack, IsFitLaneLine, IsTrackOf}
+use Rattle.law_lanes.specs.Lanes.{Lanes, no_lanes, track, unvouched_of}
+use Rattle.law_lanes.specs.Once.{EachRunRemembers, SetsFew}
+use Rattle.law_lanes.specs.Parts.{LanePoint, all_points}
+use Rattle.law_lanes.specs.Parts as lanes
+use Rattle.law_lanes.specs.Views.{has_lie_on}
+use Rattle.law_lanes.proofs.Points.{take_past}
+use Rattle.law_lanes.proofs.Together.{none_track}
 use Rattle.line_engine.specs.Each.{AreVouchedAlike}
 use Rattle.line_engine.proofs.Behind.{told_more}
 use Rattle.line_engine.proofs.Nexts.{Known, points_on, run_behind}

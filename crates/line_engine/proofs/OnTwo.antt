@@ -29,12 +29,12 @@ use Rattle.line_step.specs.Together.{IsLineTogether}
 use Rattle.line_step.proofs.ChangedStandings.{line_stays}
 use Rattle.line_step.proofs.Keeps.{does_together, lines_stay}
 use Rattle.line_step.proofs.Unnamed.{apart_is}
-use Rattle.line_lanes.specs.Lanes.{Lanes, beside, beside_nodes, has_lane, lines_of, track, tracks_with, with_track}
-use Rattle.line_lanes.specs.Reasons.{and_may, first_track, may_shift}
-use Rattle.line_lanes.specs.Shown.{standings_on}
-use Rattle.line_lanes.specs.Steps.{LanesDo, Shifts, told_once}
-use Rattle.line_lanes.proofs.Moving.{gets_does, gives_does, may_shift_is, step_like}
-use Rattle.line_lanes.proofs.Sharing.{AreShared}
+use Rattle.law_lanes.specs.Lanes.{Lanes, beside, beside_nodes, has_lane, lines_of, track, tracks_with, with_track}
+use Rattle.law_lanes.specs.Reasons.{and_may, first_track, may_shift}
+use Rattle.law_lanes.specs.Shown.{standings_on}
+use Rattle.law_lanes.specs.Steps.{LanesDo, Shifts, told_once}
+use Rattle.law_lanes.proofs.Moving.{gets_does, gives_does, may_shift_is, step_like}
+use Rattle.law_lanes.proofs.Sharing.{AreShared}
 use Rattle.line_machines.specs.Given.{GivesBoard, is_bridge_at, is_bridge_in}
 use Rattle.line_marks.specs.Indexed.{Entries, Follows, IsIndexOf, marks_in_entry, marks_listed}
 use Rattle.line_marks.specs.Seats.{both, own_seat}

@@ -6,9 +6,9 @@ use Rattle.line_script.specs.declared.line.LaneLine.TheVariants as lane_lines
 use Rattle.line_script.specs.declared.line.ScriptLine.TheVariants as lines
 use Rattle.line_report.specs.declared.happening.LaneHappening.{LaneHappening}
 use Rattle.line_step.specs.Parts.{count_behind}
-use Rattle.line_lanes.specs.Lanes.{Lanes, lines_of}
-use Rattle.line_lanes.specs.Parts.{IsLanePlay, LaneLineSteps, LanePart, LanePoint, all_told, cut_where, notice_where, parts_of, state_behind, stop_parts, stops_from, stops_on}
-use Rattle.line_lanes.specs.Steps.{LanesStep}
+use Rattle.law_lanes.specs.Lanes.{Lanes, lines_of}
+use Rattle.law_lanes.specs.Parts.{IsLanePlay, LaneLineSteps, LanePart, LanePoint, all_told, cut_where, notice_where, parts_of, state_behind, stop_parts, stops_from, stops_on}
+use Rattle.law_lanes.specs.Steps.{LanesStep}
 use Rattle.std.specs.Prelude.{None, Some}
 use Rattle.line_script.specs.Ranges.{IsBetween, IsLaneWithin}
 use Rattle.line_engine.specs.Each.{GoesOn, Plays, stopped}

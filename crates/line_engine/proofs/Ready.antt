@@ -10,8 +10,8 @@ use Rattle.line_step.specs.Requests.{Request, request_of}
 use Rattle.line_step.specs.State.{LineState}
 use Rattle.line_step.specs.Together.{IsLineTogether}
 use Rattle.line_step.proofs.Keeps.{does_together}
-use Rattle.line_lanes.specs.Lanes.{Lanes, has_lane}
-use Rattle.line_lanes.specs.Reasons.{and_may, first_track, is_named, may_on}
+use Rattle.law_lanes.specs.Lanes.{Lanes, has_lane}
+use Rattle.law_lanes.specs.Reasons.{and_may, first_track, is_named, may_on}
 use Rattle.node_core.specs.declared.input.No.TheVariants as nos
 use Rattle.line_report.specs.declared.happening.Reason.TheVariants as reasons
 use Rattle.line_machines.specs.Given.{is_of_lane}

@@ -2,8 +2,8 @@
 use Rattle.std.proofs.Common.{◌≡◌, ◌++◌, ℕ, List, [], append-nil, refl, sym}
 use Rattle.line_report.specs.declared.happening.LaneHappening.{LaneHappening}
 use Rattle.line_step.specs.Requests.{nothing, shows}
-use Rattle.line_lanes.specs.Shown.{shown_on}
-use Rattle.line_lanes.specs.Steps.{RequestDoes}
+use Rattle.law_lanes.specs.Shown.{shown_on}
+use Rattle.law_lanes.specs.Steps.{RequestDoes}
 use Rattle.line_engine.specs.Tracks.{AreKept, TellsDone, lanes_of}
 use Rattle.line_engine.specs.declared.track.Track.{Track}
 use Rattle.line_engine.proofs.OnLane.{refused}

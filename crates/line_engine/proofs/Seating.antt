@@ -11,7 +11,7 @@ use Rattle.line_report.specs.Lanes.{told_on}
 use Rattle.line_report.specs.declared.happening.Happening.TheVariants as happenings
 use Rattle.line_step.specs.State.{LineState, marks_in}
 use Rattle.line_step.proofs.Ascending.{choose_false, choose_true}
-use Rattle.line_lanes.specs.Shown.{LaneMarks, LanePlace, is_same_place, marked_from, marks_told, place_told, placed, standing_happens, standing_on, with_marks}
+use Rattle.law_lanes.specs.Shown.{LaneMarks, LanePlace, is_same_place, marked_from, marks_told, place_told, placed, standing_happens, standing_on, with_marks}
 use Rattle.line_marks.specs.declared.seat.Seat.{Seat}
 use Rattle.line_marks.specs.declared.seat.Seat.TheVariants.{Nowhere, Unclear, At}
 use Rattle.line_engine.specs.declared.track.Track.{Track}

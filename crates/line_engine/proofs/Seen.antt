@@ -2,8 +2,8 @@
 use Rattle.std.proofs.Common.{◌≡◌, Bool, List, ap, false, subst, sym}
 use Rattle.line_report.specs.declared.happening.LaneHappening.{LaneHappening}
 use Rattle.line_script.specs.declared.line.LaneLine.{LaneLine}
-use Rattle.line_lanes.specs.Lanes.{Lanes}
-use Rattle.line_lanes.specs.Parts.{LaneLineSteps}
+use Rattle.law_lanes.specs.Lanes.{Lanes}
+use Rattle.law_lanes.specs.Parts.{LaneLineSteps}
 use Rattle.line_engine.specs.Tracks.{lanes_of, states_of}
 use Rattle.line_engine.specs.declared.track.Track.{Track}
 

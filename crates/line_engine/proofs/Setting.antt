@@ -13,10 +13,10 @@ use Rattle.line_step.specs.Reasons.{May, may_do, no_if}
 use Rattle.line_step.specs.Shown.{ascending, ids_marked, ids_owned}
 use Rattle.line_step.specs.State.{LineState, machine_in, no_line, owned_by}
 use Rattle.line_step.proofs.Keeps.{none_together}
-use Rattle.line_lanes.specs.Lanes.{Lanes, empty_track as lane_empty}
-use Rattle.line_lanes.specs.Reasons.{may_set}
-use Rattle.line_lanes.specs.Shown.{marked_on, marks_told, standings_on}
-use Rattle.line_lanes.specs.Steps.{Becomes, LanesDo, Unless, copies, told_once}
+use Rattle.law_lanes.specs.Lanes.{Lanes, empty_track as lane_empty}
+use Rattle.law_lanes.specs.Reasons.{may_set}
+use Rattle.law_lanes.specs.Shown.{marked_on, marks_told, standings_on}
+use Rattle.law_lanes.specs.Steps.{Becomes, LanesDo, Unless, copies, told_once}
 use Rattle.line_engine.specs.declared.track.Track.{Track}
 use Rattle.line_engine.specs.Tracks.{AreKept, AreLike, IsLike, IsOwn, TellsDone, empty_track, empty_tracks, lanes_of, states_of}
 use Rattle.line_engine.proofs.OnLane.{refused}

@@ -9,8 +9,8 @@ use Rattle.line_report.specs.declared.happening.Happening.TheVariants as happeni
 use Rattle.line_report.specs.declared.happening.LaneHappening.{LaneHappening}
 use Rattle.line_step.specs.Shown.{kept_shown}
 use Rattle.line_step.specs.State.{LineState}
-use Rattle.line_lanes.specs.Shown.{all_shown, behind_first, front_shown, fronts_shown}
-use Rattle.line_lanes.specs.Reasons.{first_track}
+use Rattle.law_lanes.specs.Shown.{all_shown, behind_first, front_shown, fronts_shown}
+use Rattle.law_lanes.specs.Reasons.{first_track}
 use Rattle.line_engine.specs.Tracks.{lanes_of, states_of}
 use Rattle.line_engine.specs.declared.track.Track.{Track}
 

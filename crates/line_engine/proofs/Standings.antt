@@ -9,7 +9,7 @@ use Rattle.line_step.specs.Shown.{ascending, ids_marked, ids_owned, one_id}
 use Rattle.line_step.specs.State.{LineState, marks_in, owned}
 use Rattle.line_step.proofs.Ascending.{ascending_same}
 use Rattle.line_step.proofs.Unnamed.{apart_ids, or_false}
-use Rattle.line_lanes.specs.Shown.{marked_from, marked_on, marks_told, standings_on}
+use Rattle.law_lanes.specs.Shown.{marked_from, marked_on, marks_told, standings_on}
 use Rattle.line_marks.specs.Indexed.{marks_in_entry, marks_listed}
 use Rattle.line_marks.specs.Seats.{both, own_seat}
 use Rattle.line_engine.specs.Seats.{seat_from, seat_listed, seat_told}

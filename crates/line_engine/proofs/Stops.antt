@@ -19,10 +19,10 @@ use Rattle.line_step.specs.Requests as requests
 use Rattle.line_step.specs.Shown.{ascending, ids_marked}
 use Rattle.line_step.specs.State.{LineState}
 use Rattle.line_step.specs.World.{link_at}
-use Rattle.line_lanes.specs.Lanes.{Lanes, empty_track, track}
-use Rattle.line_lanes.specs.Parts.{cut_where, notice_where}
-use Rattle.line_lanes.specs.Shown.{marked_on, marks_told, standings_on}
-use Rattle.line_lanes.specs.Steps.{Becomes, RequestDoes, told_once}
+use Rattle.law_lanes.specs.Lanes.{Lanes, empty_track, track}
+use Rattle.law_lanes.specs.Parts.{cut_where, notice_where}
+use Rattle.law_lanes.specs.Shown.{marked_on, marks_told, standings_on}
+use Rattle.law_lanes.specs.Steps.{Becomes, RequestDoes, told_once}
 use Rattle.line_engine.specs.Seats.{seat_from}
 use Rattle.line_engine.specs.Tracks.{AreKept, TellsDone, lanes_of, states_of, track_in}
 use Rattle.line_engine.specs.declared.track.Track.{Track}

@@ -6,7 +6,7 @@ use Rattle.line_report.specs.declared.summary.Summary.{Summary}
 use Rattle.line_world.specs.Boards.{boards_on}
 use Rattle.line_step.specs.State.{LineState}
 use Rattle.line_step.specs.Views.{summary_of}
-use Rattle.line_lanes.specs.Views.{sum_of, summary_on}
+use Rattle.law_lanes.specs.Views.{sum_of, summary_on}
 use Rattle.line_engine.specs.Kept.{most_counted}
 use Rattle.line_engine.specs.Summed.{added_up, is_told, summed}
 use Rattle.line_engine.specs.Tracks.{lanes_of, states_of}

@@ -11,8 +11,8 @@ use Rattle.line_link.specs.Link.{LinkParts, flow_to, no_link}
 use Rattle.line_step.specs.State.{LineState, marks_in}
 use Rattle.line_step.specs.World.{end_of, link_at, link_of, no_world}
 use Rattle.line_step.proofs.Ascending.{choose_true}
-use Rattle.line_lanes.specs.Lanes.{empty_track, track}
-use Rattle.line_lanes.specs.Shown.{marked_from, standing_on}
+use Rattle.law_lanes.specs.Lanes.{empty_track, track}
+use Rattle.law_lanes.specs.Shown.{marked_from, standing_on}
 use Rattle.line_marks.specs.Indexed.{marks_listed}
 use Rattle.line_engine.specs.Seats.{place_in, seat_listed}
 use Rattle.line_engine.specs.Tracks.{IsOwn, states_of, track_in}

@@ -4,7 +4,7 @@ use Rattle.std.proofs.Math.Numerals.{sub-one}
 use Rattle.std.specs.Prelude.{get_or}
 use Rattle.std.specs.List.{AllByRecursion}
 use Rattle.line_step.specs.State.{LineState}
-use Rattle.line_lanes.specs.Lanes.{empty_track, track, unvouched_of}
+use Rattle.law_lanes.specs.Lanes.{empty_track, track, unvouched_of}
 use Rattle.line_engine.specs.Each.{AreVouchedAlike}
 use Rattle.line_engine.specs.Tracks.{AreKept, AreLike, IsLike, states_of}
 use Rattle.line_engine.specs.declared.track.Track.{Track}

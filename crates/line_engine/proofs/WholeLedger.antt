@@ -19,17 +19,17 @@ use Rattle.line_step.specs.Tracks.{IsBeside, other_line, own_line}
 use Rattle.line_step.proofs.Beside.{beside-marks, beside-old}
 use Rattle.line_step.proofs.Counted.{rises}
 use Rattle.line_step.proofs.Remarks.{standings_remarks}
-use Rattle.one_standing.specs.Reached.{Books, FollowsLine, IsBook, IsReached, LedgerAlong}
-use Rattle.one_standing.specs.Replay.{IsStandingTold, deeds_in, deeds_of}
-use Rattle.one_standing.proofs.LedgerTold.{deeds_join, remarks_none}
-use Rattle.one_standing.proofs.LedgerTurns.{after_append, legal_append}
-use Rattle.one_standing.proofs.Reaching.{made_of, old_of}
-use Rattle.line_lanes.specs.Along.{ArePointsOn, EachLaneIsATrack, all_done, is_done, told_for}
-use Rattle.line_lanes.specs.Lanes.{Lanes, track, unvouched_of}
-use Rattle.line_lanes.specs.Once.{EachRunRemembers}
-use Rattle.line_lanes.specs.Parts.{LanePoint}
-use Rattle.line_lanes.specs.Parts as lanes
-use Rattle.line_lanes.proofs.Points.{told_beside}
+use Rattle.law_one_standing.specs.Reached.{Books, FollowsLine, IsBook, IsReached, LedgerAlong}
+use Rattle.law_one_standing.specs.Replay.{IsStandingTold, deeds_in, deeds_of}
+use Rattle.law_one_standing.proofs.LedgerTold.{deeds_join, remarks_none}
+use Rattle.law_one_standing.proofs.LedgerTurns.{after_append, legal_append}
+use Rattle.law_one_standing.proofs.Reaching.{made_of, old_of}
+use Rattle.law_lanes.specs.Along.{ArePointsOn, EachLaneIsATrack, all_done, is_done, told_for}
+use Rattle.law_lanes.specs.Lanes.{Lanes, track, unvouched_of}
+use Rattle.law_lanes.specs.Once.{EachRunRemembers}
+use Rattle.law_lanes.specs.Parts.{LanePoint}
+use Rattle.law_lanes.specs.Parts as lanes
+use Rattle.law_lanes.proofs.Points.{told_beside}
 use Rattle.line_engine.specs.Each.{AreVouchedAlike}
 use Rattle.line_engine.specs.Whole.{OverLanes}
 use Rattle.line_engine.proofs.Nexts.{Known, some_points}

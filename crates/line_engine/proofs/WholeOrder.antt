@@ -30,19 +30,19 @@ use Rattle.line_step.proofs.Beside.{beside-lane}
 use Rattle.line_step.proofs.Effects.{Effect, becomes_by, line_effect}
 use Rattle.line_step.proofs.Effects as effects
 use Rattle.line_step.proofs.Remarks.{IsRemark, Passes, acts_pass, all_pass}
-use Rattle.one_standing.specs.Told.{IsTold, told_first, told_later}
-use Rattle.first_in_first_out.specs.Along.{GoInOrder, OrderAlong}
-use Rattle.first_in_first_out.specs.Order.{GoesInOrder, MovesTheFirst, held_and_kept, leaves, order_behind, order_by}
-use Rattle.line_lanes.specs.Along.{ArePointsOn, EachLaneIsATrack, all_done, happening_for, is_done, told_for}
-use Rattle.line_lanes.specs.Lanes.{Lanes, track, unvouched_of}
-use Rattle.line_lanes.specs.Once.{EachRunRemembers}
-use Rattle.line_lanes.specs.Parts.{IsLanePlay, LanePart, LanePoint, stop_parts, stops_from, stops_on}
-use Rattle.line_lanes.specs.Parts as lanes
-use Rattle.line_lanes.specs.Reasons.{first_track, may_on}
-use Rattle.line_lanes.specs.Shown.{standings_on}
-use Rattle.line_lanes.specs.Steps.{Becomes, LanesStep, OnTrack, RequestDoes, Unless, told_once}
-use Rattle.line_lanes.proofs.Points.{told_beside}
-use Rattle.line_lanes.proofs.Telling.{AreNoDeeds, done_append, standings_none}
+use Rattle.law_one_standing.specs.Told.{IsTold, told_first, told_later}
+use Rattle.law_sentences.specs.Along.{GoInOrder, OrderAlong}
+use Rattle.law_sentences.specs.Order.{GoesInOrder, MovesTheFirst, held_and_kept, leaves, order_behind, order_by}
+use Rattle.law_lanes.specs.Along.{ArePointsOn, EachLaneIsATrack, all_done, happening_for, is_done, told_for}
+use Rattle.law_lanes.specs.Lanes.{Lanes, track, unvouched_of}
+use Rattle.law_lanes.specs.Once.{EachRunRemembers}
+use Rattle.law_lanes.specs.Parts.{IsLanePlay, LanePart, LanePoint, stop_parts, stops_from, stops_on}
+use Rattle.law_lanes.specs.Parts as lanes
+use Rattle.law_lanes.specs.Reasons.{first_track, may_on}
+use Rattle.law_lanes.specs.Shown.{standings_on}
+use Rattle.law_lanes.specs.Steps.{Becomes, LanesStep, OnTrack, RequestDoes, Unless, told_once}
+use Rattle.law_lanes.proofs.Points.{told_beside}
+use Rattle.law_lanes.proofs.Telling.{AreNoDeeds, done_append, standings_none}
 use Rattle.line_engine.specs.Each.{AreVouchedAlike, stopped}
 use Rattle.line_engine.specs.Whole.{OverLanes}
 use Rattle.line_engine.proofs.Nexts.{Known, some_points}

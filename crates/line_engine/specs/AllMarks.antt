@@ -1,7 +1,7 @@
 -- THE MARKS OF A BOARD ON ALL LANES of a line, in one list.
 use Rattle.std.specs.Prelude.{◌≡◌, ◌≤◌, ℕ, List}
 use Rattle.line_step.specs.State.{marks_in}
-use Rattle.line_lanes.specs.Lanes.{Lanes, track}
+use Rattle.law_lanes.specs.Lanes.{Lanes, track}
 use Rattle.line_marks.specs.AllMarks.{AreOrdered, of_lane}
 use Rattle.line_marks.specs.declared.all_marks.LaneMark.{LaneMark}
 

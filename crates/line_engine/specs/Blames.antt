@@ -7,8 +7,8 @@ use Rattle.line_step.specs.Requests.{Request}
 use Rattle.line_step.specs.Runs.{IsRun, Point, state_behind, all_told}
 use Rattle.line_step.specs.State.{LineState, no_line}
 use Rattle.line_step.specs.Tracks.{TrackLine, own_line}
-use Rattle.one_standing.specs.Blame.{IsBlameTrue}
-use Rattle.one_standing.specs.Standing.{IsFitTrack}
+use Rattle.law_one_standing.specs.Blame.{IsBlameTrue}
+use Rattle.law_one_standing.specs.Standing.{IsFitTrack}
 
 -- what a line tells, behind what was told in any run that led to the state before it, of lines
 -- whose barcodes are texts, in which boards came only to where they weren't at home, and so now: a

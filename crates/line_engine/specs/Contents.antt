@@ -1,6 +1,6 @@
 -- CONTENTS ARE KEPT, a line at a time.
 use Rattle.std.specs.Prelude.{List}
-use Rattle.contents_kept.specs.Records.{IsChanged, KeepsContents}
+use Rattle.law_sentences.specs.Records.{IsChanged, KeepsContents}
 use Rattle.line_report.specs.declared.happening.Happening.{Happening}
 use Rattle.line_step.specs.State.{LineState}
 

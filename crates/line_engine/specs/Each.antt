@@ -11,10 +11,10 @@ use Rattle.line_step.specs.Runs.{IsRun, Point}
 use Rattle.line_step.specs.Runs.{state_behind as state_behind_track, all_told as told_by_track}
 use Rattle.line_step.specs.State.{LineState, no_line}
 use Rattle.line_step.specs.Tracks.{TrackLine, TrackSteps, own_line}
-use Rattle.one_standing.specs.Standing.{IsFitRequest}
-use Rattle.line_lanes.specs.Lanes.{Lanes, track, unvouched_of}
-use Rattle.line_lanes.specs.Parts.{IsLanePlay, LanePart, LanePoint, all_told, parts_of, state_behind}
-use Rattle.line_lanes.specs.Steps.{LanesStep}
+use Rattle.law_one_standing.specs.Standing.{IsFitRequest}
+use Rattle.law_lanes.specs.Lanes.{Lanes, track, unvouched_of}
+use Rattle.law_lanes.specs.Parts.{IsLanePlay, LanePart, LanePoint, all_told, parts_of, state_behind}
+use Rattle.law_lanes.specs.Steps.{LanesStep}
 
 -- of a state, on each of its lanes
 abbrev pub EachLaneNow : (LineState → Type 0) → Lanes → Type 0

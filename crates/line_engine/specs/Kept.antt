@@ -1,8 +1,8 @@
 -- WHAT A LINE KEEPS between two lines of its script, while it is not spent.
 use Rattle.std.specs.Prelude.{◌≡◌, ◌&&◌, ℕ, Bool, true, List, nat_le}
-use Rattle.line_lanes.specs.Along.{IsLaneReached}
-use Rattle.line_lanes.specs.Views.{summary_on}
-use Rattle.line_lanes.specs.Lanes.{Lanes}
+use Rattle.law_lanes.specs.Along.{IsLaneReached}
+use Rattle.law_lanes.specs.Views.{summary_on}
+use Rattle.law_lanes.specs.Lanes.{Lanes}
 use Rattle.line_engine.specs.declared.track.Track.{Track}
 use Rattle.line_engine.specs.Tracks.{AreKept, lanes_of}
 

@@ -1,14 +1,14 @@
 -- WHAT HOLDS OF WHATEVER A TRACK DOES NEXT, law by law.
 use Rattle.std.specs.Prelude.{◌≡◌, ◌≤◌, ◌+◌, None, List}
-use Rattle.first_in_first_out.specs.Along.{GoInOrder}
+use Rattle.law_sentences.specs.Along.{GoInOrder}
 use Rattle.line_report.specs.declared.happening.Happening.{Happening}
 use Rattle.line_step.specs.Requests.{Request}
 use Rattle.line_step.specs.State.{LineState}
 use Rattle.line_step.specs.Tracks.{TrackSteps, own_line}
-use Rattle.one_standing.specs.Reached.{FollowsLine}
-use Rattle.one_standing.specs.Standing.{IsFitRequest}
-use Rattle.supervisor_replay.specs.Along.{AgreesNext}
-use Rattle.work_orders.specs.Answers.{AnswersOnce}
+use Rattle.law_one_standing.specs.Reached.{FollowsLine}
+use Rattle.law_one_standing.specs.Standing.{IsFitRequest}
+use Rattle.law_supervisor_replay.specs.Along.{AgreesNext}
+use Rattle.law_sentences.specs.Answers.{AnswersOnce}
 use Rattle.line_engine.specs.Blames.{BlamesNext}
 use Rattle.line_engine.specs.Contents.{KeepsContentsNext}
 use Rattle.line_engine.specs.Each.{Next, NextEver}

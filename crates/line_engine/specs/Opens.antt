@@ -4,7 +4,7 @@ use Rattle.line_report.specs.declared.happening.Happening.{Happening}
 use Rattle.line_step.specs.Runs.{IsRun, Point, state_behind, all_told}
 use Rattle.line_step.specs.State.{LineState, no_line}
 use Rattle.line_step.specs.Tracks.{TrackLine}
-use Rattle.line_openings.specs.Announced.{OpensAsAnnounced}
+use Rattle.law_sentences.specs.Announced.{OpensAsAnnounced}
 
 -- what a line tells, behind what was told in any run that led to the state before it: over all of
 -- it each machine opens as announced

@@ -11,7 +11,7 @@ use Rattle.line_marks.specs.Seats.{both, own_seat}
 use Rattle.line_marks.specs.declared.seat.LaneStanding.{LaneStanding}
 use Rattle.line_marks.specs.declared.seat.Seat.{Seat}
 use Rattle.line_marks.specs.declared.seat.Seat.TheVariants.{Nowhere, Unclear, At}
-use Rattle.line_lanes.specs.Shown.{LanePlace, standing_happens}
+use Rattle.law_lanes.specs.Shown.{LanePlace, standing_happens}
 use Rattle.line_engine.specs.declared.track.Track.{Track}
 
 -- on the lanes from this one on

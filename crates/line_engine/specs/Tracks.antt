@@ -18,8 +18,8 @@ use Rattle.line_step.specs.Reasons.{May, may_do}
 use Rattle.line_step.specs.State.{LineState, no_line, owned}
 use Rattle.line_step.specs.Steps.{MachineSteps}
 use Rattle.line_step.specs.Together.{IsLineTogether}
-use Rattle.line_lanes.specs.Lanes.{Lanes}
-use Rattle.line_lanes.specs.Shown.{standings_on}
+use Rattle.law_lanes.specs.Lanes.{Lanes}
+use Rattle.law_lanes.specs.Shown.{standings_on}
 use Rattle.line_marks.specs.declared.index.Moved.{Moved}
 use Rattle.line_engine.specs.declared.track.Track.{Track}
 use Rattle.line_marks.specs.Indexed.{Entries, Follows, IsIndexOf, entry_at, indexed, marks_listed, patched}

@@ -4,8 +4,8 @@ use Rattle.std.specs.Prelude.{◌≤◌, ℕ, List}
 use Rattle.line_report.specs.declared.happening.Happening.{Happening}
 use Rattle.line_report.specs.declared.happening.LaneHappening.{LaneHappening}
 use Rattle.line_step.specs.State.{LineState}
-use Rattle.line_lanes.specs.Along.{told_for}
-use Rattle.line_lanes.specs.Lanes.{Lanes, track}
+use Rattle.law_lanes.specs.Along.{told_for}
+use Rattle.law_lanes.specs.Lanes.{Lanes, track}
 
 abbrev pub OverLanes : (LineState → LineState → List Happening → Type 0) → Lanes → Lanes
     → List LaneHappening → Type 0

@@ -5,16 +5,16 @@ ghost use Rattle.line_step.specs.World.{end_of, link_at, link_of};
 ghost use Rattle.line_script.specs.Ranges.{IsLaneWithin, IsWithin};
 ghost use Rattle.line_script.specs.declared.line.ScriptLine.TheVariants as lines;
 ghost use Rattle.line_step.specs.State.{marks_in};
-ghost use Rattle.first_in_first_out.specs.Along.{GoInOrder};
-ghost use Rattle.one_standing.specs.Facts.{HasCustodyFacts};
-ghost use Rattle.one_standing.specs.Reached.{FollowsLine, HasUniqueIds};
-ghost use Rattle.one_standing.specs.Standing.{HasOneStanding, IsFitLine};
-ghost use Rattle.line_bounds.specs.Within.{IsBounded};
-ghost use Rattle.line_lanes.specs.Along.{EachLaneLineHasAStep, IsFitLaneLine, IsLaneReached, IsOnOneLane};
-ghost use Rattle.line_lanes.specs.Lanes.{lines_of, no_lanes, track, unvouched_of};
-ghost use Rattle.line_lanes.specs.Parts.{LaneLineSteps};
-ghost use Rattle.line_lanes.specs.Shown.{marked_on, standing_on};
-ghost use Rattle.line_lanes.specs.Views.{summary_on};
+ghost use Rattle.law_sentences.specs.Along.{GoInOrder};
+ghost use Rattle.law_one_standing.specs.Facts.{HasCustodyFacts};
+ghost use Rattle.law_one_standing.specs.Reached.{FollowsLine, HasUniqueIds};
+ghost use Rattle.law_one_standing.specs.Standing.{HasOneStanding, IsFitLine};
+ghost use Rattle.law_sentences.specs.Within.{IsBounded};
+ghost use Rattle.law_lanes.specs.Along.{EachLaneLineHasAStep, IsFitLaneLine, IsLaneReached, IsOnOneLane};
+ghost use Rattle.law_lanes.specs.Lanes.{lines_of, no_lanes, track, unvouched_of};
+ghost use Rattle.law_lanes.specs.Parts.{LaneLineSteps};
+ghost use Rattle.law_lanes.specs.Shown.{marked_on, standing_on};
+ghost use Rattle.law_lanes.specs.Views.{summary_on};
 ghost use Rattle.line_engine.specs.AllMarks.{AreAllMarks};
 ghost use Rattle.line_engine.specs.Each.{AreVouchedAlike, EachLaneNow, EachNext};
 ghost use Rattle.line_engine.specs.Next.{AnswersNext, BlameNext, ContentsNext, LedgerNext, OpeningsNext, OrderNext, ReplayNext};
@@ -45,7 +45,7 @@ pub struct Line {
 
 impl Model for Line {
     ghost use Rattle.std.specs.Prelude.{◌≡◌, false};
-    ghost use Rattle.line_lanes.specs.Lanes.{Lanes};
+    ghost use Rattle.law_lanes.specs.Lanes.{Lanes};
     ghost use Rattle.line_engine.specs.Kept.{IsKept};
     ghost use Rattle.line_engine.specs.Tracks.{states_of};
 
@@ -124,24 +124,24 @@ impl Line {
         // a line supervisor who folds what he is told knows where each board is
         ensures replay { IfOk result (EachNext ReplayNext line.now self.old self.new) }
     {
-        line_lanes::laws::each_line_on_lanes_has_a_step();
+        law_lanes::laws::each_line_on_lanes_has_a_step();
         if self.spent {
             return Err(Memory);
         }
         is_fit(line);
         self.known();
-        line_lanes::laws::each_part_is_reached();
-        line_lanes::laws::what_a_run_over_lanes_leads_to();
-        line_lanes::laws::each_lane_is_a_track();
-        line_lanes::laws::each_run_remembers_its_lies();
-        line_bounds::laws::a_line_stays_within_its_bounds();
-        first_in_first_out::laws::each_line_keeps_the_order();
-        one_standing::laws::what_a_run_leads_to();
-        contents_kept::laws::contents_are_kept_over_each_line();
-        one_standing::laws::a_breach_is_told_only_behind_a_spoiled_text();
-        line_openings::laws::a_machine_opens_exactly_when_announced();
-        work_orders::laws::each_line_answers_once();
-        supervisor_replay::laws::each_line_keeps_the_replay_right();
+        law_lanes::laws::each_part_is_reached();
+        law_lanes::laws::what_a_run_over_lanes_leads_to();
+        law_lanes::laws::each_lane_is_a_track();
+        law_lanes::laws::each_run_remembers_its_lies();
+        law_sentences::line_bounds::a_line_stays_within_its_bounds();
+        law_sentences::first_in_first_out::each_line_keeps_the_order();
+        law_one_standing::laws::what_a_run_leads_to();
+        law_sentences::contents_kept::contents_are_kept_over_each_line();
+        law_one_standing::laws::a_breach_is_told_only_behind_a_spoiled_text();
+        law_sentences::line_openings::a_machine_opens_exactly_when_announced();
+        law_sentences::work_orders::each_line_answers_once();
+        law_supervisor_replay::laws::each_line_keeps_the_replay_right();
         self.play(number, line)
     }
 
@@ -180,8 +180,8 @@ impl Line {
         ensures one_lane { unvouched_of self.now ≡ None → IsOnOneLane self.now }
     {
         self.known();
-        line_lanes::laws::what_a_run_over_lanes_leads_to();
-        one_standing::laws::what_a_run_leads_to();
+        law_lanes::laws::what_a_run_over_lanes_leads_to();
+        law_one_standing::laws::what_a_run_leads_to();
         place_in(self.tracks.seat(id))
     }
 
@@ -194,8 +194,8 @@ impl Line {
         ensures standing { unvouched_of self.now ≡ None → EachLaneNow HasOneStanding self.now }
     {
         self.known();
-        line_lanes::laws::what_a_run_over_lanes_leads_to();
-        one_standing::laws::what_a_run_leads_to();
+        law_lanes::laws::what_a_run_over_lanes_leads_to();
+        law_one_standing::laws::what_a_run_leads_to();
         match self.tracks.track(lane) {
             Some(track) => track.index.marks(id),
             None => &[],

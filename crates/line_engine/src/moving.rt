@@ -1,9 +1,9 @@
 //! A board goes to another lane of its machine.
 
 ghost use Rattle.std.specs.Prelude.{◌≡◌, ◌≢◌, ◌≤◌, ◌<◌, ◌-◌, IfOk, OnOk, length};
-ghost use Rattle.line_lanes.specs.Lanes.{lines_of};
-ghost use Rattle.line_lanes.specs.Reasons.{may_shift};
-ghost use Rattle.line_lanes.specs.Steps.{LanesDo};
+ghost use Rattle.law_lanes.specs.Lanes.{lines_of};
+ghost use Rattle.law_lanes.specs.Reasons.{may_shift};
+ghost use Rattle.law_lanes.specs.Steps.{LanesDo};
 ghost use Rattle.line_script.specs.Ranges.{IsBetween};
 ghost use Rattle.line_script.specs.declared.line.LaneLine.TheVariants as lane_lines;
 ghost use Rattle.line_step.specs.Reasons.{may_do, may_give_away, may_take_in};

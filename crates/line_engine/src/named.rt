@@ -1,7 +1,7 @@
 //! What a line of a script names, and whether it is there.
 
 ghost use Rattle.std.specs.Prelude.{◌≡◌, true};
-ghost use Rattle.line_lanes.specs.Reasons.{is_named};
+ghost use Rattle.law_lanes.specs.Reasons.{is_named};
 ghost use Rattle.line_script.specs.Ranges.{IsWithin};
 ghost use Rattle.line_step.specs.Requests.{request_of};
 ghost use Rattle.line_machines.specs.Given.{is_of_lane};

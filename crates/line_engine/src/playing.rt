@@ -1,8 +1,8 @@
 //! The parts of a line of the script, one behind the other: a stop does several lines.
 
 ghost use Rattle.std.specs.Prelude.{◌≡◌, ◌≤◌, ◌+◌, [], IfOk, None, OnOk, length, true};
-ghost use Rattle.line_lanes.specs.Lanes.{lines_of};
-ghost use Rattle.line_lanes.specs.Parts.{LaneLineSteps, cut_where, notice_where, stop_parts, stops_on};
+ghost use Rattle.law_lanes.specs.Lanes.{lines_of};
+ghost use Rattle.law_lanes.specs.Parts.{LaneLineSteps, cut_where, notice_where, stop_parts, stops_on};
 ghost use Rattle.line_script.specs.Ranges.{IsBetween, IsLaneWithin};
 ghost use Rattle.line_script.specs.declared.line.LaneLine.TheVariants as lane_lines;
 ghost use Rattle.line_script.specs.declared.line.ScriptLine.TheVariants as lines;

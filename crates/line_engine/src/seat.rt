@@ -2,7 +2,7 @@
 
 ghost use Rattle.std.specs.Prelude.{◌≡◌, ◌++◌, OnOk, Some, option_map};
 ghost use Rattle.standings.specs.Told.{is_same_standing};
-ghost use Rattle.line_lanes.specs.Shown.{standing_happens};
+ghost use Rattle.law_lanes.specs.Shown.{standing_happens};
 ghost use Rattle.line_marks.specs.declared.seat.Seat.TheVariants.{Nowhere};
 ghost use Rattle.line_engine.specs.Seats.{is_same_seat, place_in, place_of, seat_told};
 

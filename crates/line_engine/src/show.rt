@@ -3,7 +3,7 @@
 ghost use Rattle.std.specs.Prelude.{◌≡◌, ◌<◌, ◌+◌, ◌++◌, None, OnOk, drop};
 ghost use Rattle.std.specs.Option.{option_copied};
 ghost use Rattle.node_core.specs.Own.{id_of};
-ghost use Rattle.line_lanes.specs.Shown.{front_shown};
+ghost use Rattle.law_lanes.specs.Shown.{front_shown};
 ghost use Rattle.line_report.specs.Lanes.{told_on};
 ghost use Rattle.line_step.specs.Shown.{between_shown, kept_shown, taken_below};
 

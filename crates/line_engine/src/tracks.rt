@@ -2,11 +2,11 @@
 
 ghost use Rattle.std.specs.Prelude.{◌≡◌, ◌≤◌, ◌<◌, ◌+◌, ◌-◌, ◌^◌, ◌∷◌, ◌++◌, ℕ, IfOk, IfSome, OnOk, drop, if◌then◌else◌, is_some, length, map, not, true};
 ghost use Rattle.std.specs.Option.{option_copied};
-ghost use Rattle.line_lanes.specs.Lanes.{counted, has_lane, lines_of, no_lanes};
-ghost use Rattle.line_lanes.specs.Reasons.{may_on};
-ghost use Rattle.line_lanes.specs.Shown.{fronts_shown, shown_on};
-ghost use Rattle.line_lanes.specs.Steps.{LanesDo, RequestDoes};
-ghost use Rattle.line_lanes.specs.Views.{summary_on};
+ghost use Rattle.law_lanes.specs.Lanes.{counted, has_lane, lines_of, no_lanes};
+ghost use Rattle.law_lanes.specs.Reasons.{may_on};
+ghost use Rattle.law_lanes.specs.Shown.{fronts_shown, shown_on};
+ghost use Rattle.law_lanes.specs.Steps.{LanesDo, RequestDoes};
+ghost use Rattle.law_lanes.specs.Views.{summary_on};
 ghost use Rattle.line_report.specs.declared.happening.Reason.TheVariants as reasons;
 ghost use Rattle.line_script.specs.Ranges.{IsBetween, IsLaneWithin, IsWithin};
 ghost use Rattle.line_script.specs.declared.line.LaneLine.TheVariants as lane_lines;

@@ -2,7 +2,7 @@
 
 ghost use Rattle.std.specs.Prelude.{◌≡◌, ◌+◌, ◌≤◌, false, OnOk};
 ghost use Rattle.line_script.specs.Ranges.{IsLaneWithin};
-ghost use Rattle.line_lanes.specs.Lanes.{lines_of};
+ghost use Rattle.law_lanes.specs.Lanes.{lines_of};
 
 use line_base::Memory;
 use line_engine::{Line, write_all};

@@ -10,3 +10,5 @@ pub mod Clock
 pub mod Room
 pub mod Left
 pub mod Store
+pub mod Address
+pub mod Written

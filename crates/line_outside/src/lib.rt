@@ -1,5 +1,5 @@
 //! What lies outside of the programs: where bytes come from and where they go, the connections of
-//! a machine, and its clock.
+//! a machine with the spelling of their addresses, and its clock.
 //!
 //! The traits say what each may answer. The memory forms tell what they hold, so that a program
 //! over them is proved to its last byte. The adapters stand over the host's readers, writers,
@@ -7,6 +7,9 @@
 #![tactic(auto)]
 
 mod account;
+mod address_proper;
+mod address_read;
+mod address_write;
 mod answer;
 mod clock;
 mod host_clock;
@@ -27,6 +30,9 @@ mod steady_source;
 mod way;
 mod writer_sink;
 
+pub use address_proper::address_is_proper;
+pub use address_read::{address_of, port_of};
+pub use address_write::write_address;
 pub use answer::{GotBytes, PortAnswer};
 pub use clock::{Clock, FixedClock};
 pub use host_clock::HostClock;

@@ -11,8 +11,8 @@ use Rattle.line_step.specs.State.{LineState, machine_in, marks_in, owned, owned_
 use Rattle.line_step.specs.Together.{IsLineTogether, is_linked}
 use Rattle.line_step.specs.Tracks.{AreBesideNodes, IsBeside, IsBesideNode}
 use Rattle.line_step.specs.World.{WorldParts}
-use Rattle.line_step.specs.Made.{IsOld}
-use Rattle.line_step.proofs.Makers.{AreNumbered, IsNumbered, made-more}
+use Rattle.step_rules.specs.Makers.{IsOld}
+use Rattle.step_rules.proofs.Makers.{AreNumbered, IsNumbered, made-more}
 
 -- ---- its machines
 

@@ -14,7 +14,7 @@ use Rattle.node_core.specs.declared.act.Deed.{Deed}
 use Rattle.node_core.specs.declared.act.Deed.TheVariants as deeds
 use Rattle.line_step.specs.World.{WorldParts, end_of, link_at, link_of, with_link}
 use Rattle.line_step.specs.Acts.{act_did, acts_did, answers, counted, sent_by}
-use Rattle.line_step.specs.Opened.{closed_at, open_act, open_after}
+use Rattle.step_rules.specs.Opened.{closed_at, open_act, open_after}
 use Rattle.line_step.specs.Together.{is_linked}
 use Rattle.line_step.proofs.Numbers.{Written, written, nowhere, link_set, link_set_other, same_or_not, none_or_one}
 

@@ -68,11 +68,11 @@ use Rattle.node_core.specs.Supervising.{
   with_tells,
 }
 use Rattle.line_step.specs.FloorIds.{AllChange, ChangesBoards, IdsStay, IsFresh, IsNoneOf, KeepsIds, boards_of, handled_by, made_by}
-use Rattle.line_step.proofs.Hands.{AreQuiet, IsQuiet, announces-quiet, hands_with_tells, met-quiet, quiet-join, read-quiet, signals-quiet, tells_behind-quiet}
+use Rattle.step_rules.proofs.Hands.{AreQuiet, IsQuiet, announces-quiet, hands_with_tells, met-quiet, quiet-join, read-quiet, signals-quiet, tells_behind-quiet}
 use Rattle.step_rules.specs.Acts.{OfEvent}
 use Rattle.line_step.proofs.WithTells.{tells_append}
-use Rattle.line_step.specs.Made.{IsOld}
-use Rattle.line_step.proofs.Makers.{AreNumbered, numbered-at, numbered-last, numbered-set, old-apart, old-last, old-new, old-set}
+use Rattle.step_rules.specs.Makers.{IsOld}
+use Rattle.step_rules.proofs.Makers.{AreNumbered, numbered-at, numbered-last, numbered-set, old-apart, old-last, old-new, old-set}
 use Rattle.line_step.proofs.OnFloor.{Handles, IsPlain, IsStill, LiesThere, SameBoards, acts-still, all-join, as_many_gaps, changes-changes, handled-join, handles, lays-gains, lies-there_by, made-join, quiet-acts, read-list, same-list, still-join, still-none, takes_off-loses, board-gains, front-loses}
 use Rattle.line_step.proofs.Remarks.{IsRemark, Passes, all_pass, standings_remarks, unvouched_remarks}
 use Rattle.line_step.specs.Requests.{Request, added_told, may_get}

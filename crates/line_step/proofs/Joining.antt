@@ -12,10 +12,10 @@ use Rattle.line_step.specs.World.{link_at, with_link}
 use Rattle.line_step.specs.State.{LineState, machine_in}
 use Rattle.line_step.specs.Steps.{MachineSteps, is_second, moment_of, read_by, unread_by}
 use Rattle.line_step.specs.Lines.{connecting, met}
-use Rattle.line_step.specs.Opened.{open_after, opened_by}
+use Rattle.step_rules.specs.Opened.{open_after, opened_by}
 use Rattle.line_step.specs.Together.{is_linked}
 use Rattle.line_step.proofs.Numbers.{link_set_own, link_set_other, machine_set_own, machine_set_other, machine_within}
-use Rattle.line_step.proofs.Opening.{steps_open}
+use Rattle.step_rules.proofs.Opening.{steps_open}
 use Rattle.line_step.proofs.Ends.{own_end, other_end}
 use Rattle.line_report.specs.declared.happening.Happening.{Happening}
 

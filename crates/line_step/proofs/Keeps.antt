@@ -23,7 +23,7 @@ use Rattle.line_step.specs.State.{LineState, machine_in, most_machines, no_line,
 use Rattle.line_step.specs.Steps.{MachineSteps}
 use Rattle.line_step.specs.Lines.{Connects, Flows, LineDoes, LineSteps, arrived, connecting, lied, met, moved, unseen}
 use Rattle.line_step.specs.Reasons.{may_add, may_connect, may_do, no_if}
-use Rattle.line_step.specs.Opened.{opened_by}
+use Rattle.step_rules.specs.Opened.{opened_by}
 use Rattle.line_step.specs.Together.{IsLineTogether, is_linked}
 use Rattle.line_step.proofs.Numbers.{at_number, link_beyond, none_or_one, number_more, same_or_not}
 use Rattle.line_step.proofs.Ends.{SameNumbers, no_number, same_cut_off, same_ends, same_flow, same_spoil}

@@ -8,8 +8,6 @@ pub mod Effects
 pub mod Turns
 pub mod Shifted
 pub mod Getting
-pub mod Quiet
-pub mod Opening
 pub mod Numbers
 pub mod Floors
 pub mod Ends
@@ -24,12 +22,9 @@ pub mod ChangedStandings
 pub mod Counted
 pub mod Beside
 pub mod Running
-pub mod Hands
-pub mod Makers
 pub mod OnFloor
 pub mod FloorLaws
 pub mod Vouching
 pub mod Playing
 pub mod Newcomers
-pub mod Once
 pub mod LineOnce

@@ -50,7 +50,7 @@ use Rattle.line_step.specs.Shown.{ascending, between_shown, ids_owned, kept_show
 use Rattle.line_step.specs.Lines.{Becomes, Connects, Flows, LineDoes, LineSteps, Moves, Unless, arrived, connecting, cut_in, lied, met, move_told, moved, spoiled, unseen}
 use Rattle.line_step.specs.Runs.{Point, state_behind, told_text}
 use Rattle.line_step.specs.Parts.{IsPlay, IsScriptRun, Part, count_behind, cut_where, entry_where, exit_where, parts_of, script_parts, where_may}
-use Rattle.line_step.proofs.Once.{AreAlike, IsDry, OneMeaning, StepsOnce, desk-same, steps-bytes, steps-dry}
+use Rattle.step_rules.proofs.Once.{AreAlike, IsDry, OneMeaning, StepsOnce, desk-same, steps-bytes, steps-dry}
 use Rattle.line_step.specs.Requests.{Request, added_told, may_get, request_of}
 use Rattle.line_step.specs.Requests as requests
 

@@ -27,7 +27,7 @@ use Rattle.line_report.specs.declared.happening.Happening.TheVariants as happeni
 use Rattle.line_step.specs.World.{WorldParts, end_of, link_at, link_of}
 use Rattle.line_step.specs.Acts.{act_did, acts_did, answers, changes, counted as after_deed, cut_told, drives_on, lays, sent_by, takes_off}
 use Rattle.line_step.specs.FloorIds.{AllChange, ChangesBoards, handled_by, handled_in, made_by, made_in}
-use Rattle.line_step.proofs.Hands.{AreQuiet, IsQuiet}
+use Rattle.step_rules.proofs.Hands.{AreQuiet, IsQuiet}
 
 -- ---- floors with the same boards
 

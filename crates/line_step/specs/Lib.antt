@@ -1,6 +1,5 @@
 pub mod World
 pub mod State
-pub mod Opened
 pub mod Together
 pub mod Numbered
 pub mod Near
@@ -11,7 +10,6 @@ pub mod Shown
 pub mod Requests
 pub mod Homes
 pub mod Lines
-pub mod Made
 pub mod Views
 pub mod Tracks
 pub mod Runs

@@ -10,7 +10,7 @@ use Rattle.node_core.specs.Node.{NodeState}
 use Rattle.node_core.specs.declared.input.Input.TheVariants as inputs
 use Rattle.line_report.specs.declared.happening.Happening.{Happening}
 use Rattle.line_step.specs.State.{LineState}
-use Rattle.line_step.specs.Made.{IsOld}
+use Rattle.step_rules.specs.Makers.{IsOld}
 use Rattle.line_step.specs.Requests.{Request, gives, nothing}
 use Rattle.line_step.specs.Lines.{Counts, LineSteps}
 

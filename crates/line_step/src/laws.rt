@@ -19,7 +19,7 @@ ghost use Rattle.standings.specs.Told.{told_of};
 ghost use Rattle.line_step.specs.Acts.{acts_did};
 ghost use Rattle.line_step.specs.Lines.{LineDoes, LineSteps, connecting, met};
 ghost use Rattle.line_step.specs.Named.{ids_named};
-ghost use Rattle.line_step.specs.Opened.{open_after, opened_by};
+ghost use Rattle.step_rules.specs.Opened.{open_after, opened_by};
 ghost use Rattle.line_step.specs.Reasons.{may_connect, may_do};
 ghost use Rattle.line_step.specs.Shown.{ascending, standing_told, standings_told};
 ghost use Rattle.line_step.specs.Requests.{Request};

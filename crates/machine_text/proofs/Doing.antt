@@ -2,7 +2,7 @@
 use Rattle.std.proofs.Common.{◌≡◌, ℕ, ℤ, List, Result, Ok, Err}
 use Rattle.std.specs.Prelude.{OnOk}
 use Rattle.node_panel.specs.declared.line.PanelLine.{PanelLine}
-use Rattle.panel_inputs.specs.Inputs.{input_of, sensed_of}
+use Rattle.node_panel.specs.Inputs.{input_of, sensed_of}
 use Rattle.machine_port.specs.Port.{HasStepped, PortState}
 use Rattle.machine_text.specs.Lines.{DoesLine, asked_by}
 use Rattle.machine_text.specs.declared.line.LineNotDone.{LineNotDone}

@@ -5,7 +5,7 @@ use Rattle.line_script.specs.declared.line.LineWhy.{LineWhy}
 use Rattle.node_panel.specs.Panel.{panel_line_of}
 use Rattle.node_panel.specs.declared.line.PanelLine.{PanelLine}
 use Rattle.node_panel.specs.declared.line.PanelLine.TheVariants as lines
-use Rattle.panel_inputs.specs.Inputs.{input_of, sensed_of}
+use Rattle.node_panel.specs.Inputs.{input_of, sensed_of}
 use Rattle.machine_port.specs.Port.{HasStepped, PortState}
 use Rattle.machine_port.specs.declared.error.NotDone.{NotDone}
 use Rattle.machine_port.specs.declared.error.NotDone.TheVariants as steps

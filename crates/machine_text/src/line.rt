@@ -1,6 +1,6 @@
 ghost use Rattle.std.specs.Prelude.{◌≡◌, true, false, Ok, Err, IfErr, IfOk, IsErr, OnOk};
 ghost use Rattle.node_core.specs.May.{may_do};
-ghost use Rattle.panel_inputs.specs.Inputs.{input_of, sensed_of};
+ghost use Rattle.node_panel.specs.Inputs.{input_of, sensed_of};
 ghost use Rattle.machine_port.specs.Port.{HasStepped, made_after, may_take};
 ghost use Rattle.machine_text.specs.Lines.{DoesLine, asked_by, events_of, line_answer, step_asked};
 
@@ -9,8 +9,7 @@ use line_base::{Memory, Moment};
 use line_script::{LineError, LineWhy};
 use machine_port::{NotDone, Port};
 use node_core::No;
-use node_panel::{PanelLine, read_panel_line};
-use panel_inputs::input_of;
+use node_panel::{PanelLine, input_of, read_panel_line};
 use std::alloc::Global;
 
 /// Why a line asks a machine for no step.

@@ -14,8 +14,8 @@ use Rattle.node_run.specs.declared.status.NodeStatus.{NodeStatus}
 use Rattle.node_run.specs.declared.status.NodeStatus.TheVariants as statuses
 use Rattle.node_settings.specs.Settings.{Refusal, read_of}
 use Rattle.node_settings.specs.declared.settings.Settings.{Settings}
-use Rattle.one_run.specs.One.{Agree, EachRunIsOne, IsWhole, answers_of}
-use Rattle.each_run.specs.Each.{EachOutsideHasOneRun, Fits, HasOneRun, Outside, begun_by}
+use Rattle.law_node_runs.specs.One.{Agree, EachRunIsOne, IsWhole, answers_of}
+use Rattle.law_node_runs.specs.Each.{EachOutsideHasOneRun, Fits, HasOneRun, Outside, begun_by}
 use Rattle.node_cli.specs.Answered.{Answers, EachInputHasOneAnswer, EachOutsideHasOneAnswer, HasOneAnswer, IsAnswer, IsAnswered, IsSettingsAnswer, IsStatusAlone, answered, file_failed, log_failed, memory_wanted}
 use Rattle.node_commands.proofs.Bounds.{read_bounded}
 use Rattle.node_commands.specs.Command.{DoesFile, DoesNode, DoesSettings, HasCauses, IsQuiet}

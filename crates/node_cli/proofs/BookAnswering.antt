@@ -1,7 +1,7 @@
 -- What the program answers over a book is the one answer, or a fault with its cause, or want of memory.
 use Rattle.std.proofs.Common.{◌≡◌, ◌∙◌, sym, subst, refl, ap, ℕ, ℤ, ◌≤◌, ◌<◌, Bool, true, false, List, [], ◌∷◌, ◌++◌, Option, None, Some, Result, Ok, Err, inl, inr, length, append-nil, arith}
 use Rattle.std.proofs.lemmas.List.Elements.{All-nil, All-push}
-use Rattle.kept_runs.specs.Kept.{BeginAsOne, EachKeptRunIsOne, EndsKept, IsFullKept, IsWholeKept}
+use Rattle.law_node_runs.specs.Kept.{BeginAsOne, EachKeptRunIsOne, EndsKept, IsFullKept, IsWholeKept}
 use Rattle.line_outside.specs.Given.{Given}
 use Rattle.line_outside.specs.Ports.{Gains}
 use Rattle.line_outside.specs.Sink.{Grows}
@@ -20,7 +20,7 @@ use Rattle.node_run.specs.declared.status.NodeStatus.{NodeStatus}
 use Rattle.node_run.specs.declared.status.NodeStatus.TheVariants as statuses
 use Rattle.node_settings.specs.Settings.{Refusal, read_of}
 use Rattle.node_settings.specs.declared.settings.Settings.{Settings}
-use Rattle.one_run.specs.One.{Agree, answers_of}
+use Rattle.law_node_runs.specs.One.{Agree, answers_of}
 use Rattle.restart_book.specs.Exactly.{EachBookHasOneAnswer}
 use Rattle.restart_book.specs.Replay.{IsResumedAs}
 use Rattle.node_cli.specs.BookAnswered.{BookAnswers, Change, Counts, EachBookInputHasOneAnswer, GoesOn, IsBookAnswer, IsBookAnswered, IsBookRun, IsEndAlone, IsReadAnswer, answered, book_failed, counts, file_failed, goes_on, is_bad, is_too_long, kept_on, log_failed, memory_wanted, stays}

@@ -14,8 +14,8 @@ use Rattle.node_run.specs.declared.status.NodeStatus.{NodeStatus}
 use Rattle.node_run.specs.declared.status.NodeStatus.TheVariants as statuses
 use Rattle.node_settings.specs.Settings.{Refusal, read_of}
 use Rattle.node_settings.specs.declared.settings.Settings.{Settings}
-use Rattle.one_run.specs.One.{Agree, IsWhole, answers_of}
-use Rattle.each_run.specs.Each.{AreAnswered, AreMoments, Fits, Outside}
+use Rattle.law_node_runs.specs.One.{Agree, IsWhole, answers_of}
+use Rattle.law_node_runs.specs.Each.{AreAnswered, AreMoments, Fits, Outside}
 
 -- nothing but this status
 abbrev pub IsStatusAlone : NodeStatus → List Given → List ℕ → NodeStatus → Type 0

@@ -5,8 +5,8 @@ use Rattle.std.specs.Prelude.{◌≡◌, ◌≤◌, ◌<◌, ℕ, ℤ, Bool, tru
 use Rattle.std.specs.List.{All}
 use Rattle.book_entry.specs.declared.entry.Entry.{Entry}
 use Rattle.book_keeper.specs.Keeping.{IsCut}
-use Rattle.entry_step.specs.Steps.{spelled}
-use Rattle.kept_runs.specs.Kept.{EndsKept}
+use Rattle.book_entry.specs.Steps.{spelled}
+use Rattle.law_node_runs.specs.Kept.{EndsKept}
 use Rattle.line_outside.specs.Faults.{Rises}
 use Rattle.line_outside.specs.Given.{Given}
 use Rattle.line_outside.specs.Ports.{Gains}
@@ -22,7 +22,7 @@ use Rattle.node_run.specs.declared.booked.BookedStatus.{BookedStatus}
 use Rattle.node_run.specs.declared.status.NodeStatus.TheVariants as statuses
 use Rattle.node_settings.specs.Settings.{Refusal, read_of}
 use Rattle.node_settings.specs.declared.settings.Settings.{Settings}
-use Rattle.one_run.specs.One.{Agree, answers_of}
+use Rattle.law_node_runs.specs.One.{Agree, answers_of}
 use Rattle.restart_book.specs.Replay.{IsBadAt, IsResumedAs}
 use Rattle.restart_book.specs.declared.resuming.BookWhy.{BookWhy}
 use Rattle.node_commands.specs.Books.{Outside, book_status}

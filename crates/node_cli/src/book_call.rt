@@ -1,16 +1,16 @@
-ghost use Rattle.joined_nodes.specs.Laws.{NodesStand};
-ghost use Rattle.joined_ports.specs.Poured.{PouredStand};
-ghost use Rattle.kept_runs.specs.Anew.{KeptLogTellsOwn, KeptRunsAreRuns, NewMachinesRunAsEver};
-ghost use Rattle.kept_runs.specs.First.{CallsComeFirst};
-ghost use Rattle.kept_runs.specs.Kept.{EachKeptRunIsOne};
+ghost use Rattle.law_joined_nodes.specs.Laws.{NodesStand};
+ghost use Rattle.law_joined_nodes.specs.Poured.{PouredStand};
+ghost use Rattle.law_node_runs.specs.Anew.{KeptLogTellsOwn, KeptRunsAreRuns, NewMachinesRunAsEver};
+ghost use Rattle.law_node_runs.specs.First.{CallsComeFirst};
+ghost use Rattle.law_node_runs.specs.Kept.{EachKeptRunIsOne};
 ghost use Rattle.node_cli.specs.BookAnswered.{EachBookInputHasOneAnswer, IsBookAnswered, counts};
 ghost use Rattle.node_commands.specs.Books.{DoesNodeBook, FitsNodeBook, HasBookCauses, StopsBeginAgain, outside};
 ghost use Rattle.node_commands.specs.Command.{is_one};
 ghost use Rattle.node_cli.specs.Logged.{TextIsBounded};
-ghost use Rattle.node_connections.specs.Connections.{ConnectionsAreInOrder};
+ghost use Rattle.law_node_runs.specs.Connections.{ConnectionsAreInOrder};
 ghost use Rattle.node_run.specs.Settled.{SettingsAreTheLast};
 ghost use Rattle.restart_book.specs.Exactly.{EachBookHasOneAnswer};
-ghost use Rattle.running_line.specs.Reading.{Behind};
+ghost use Rattle.law_running_line.specs.Reading.{Behind};
 
 use book_keeper::Keeper;
 use line_base::Words;
@@ -72,17 +72,17 @@ pub fn node_book_main<S: Source, P: Ports, C: Clock, K: Sink, B: Keeper>(
     ensures neighbours { NodesStand Behind }
     ensures over_tcp { PouredStand Behind }
 {
-    kept_runs::laws::what_a_machine_owns_is_read_off_its_log();
-    kept_runs::laws::behind_turn_0_a_run_is_as_ever();
-    kept_runs::laws::a_new_machine_runs_as_ever();
+    law_node_runs::kept_runs::what_a_machine_owns_is_read_off_its_log();
+    law_node_runs::kept_runs::behind_turn_0_a_run_is_as_ever();
+    law_node_runs::kept_runs::a_new_machine_runs_as_ever();
     node_run::laws::too_much_text_closes_a_way();
     node_run::laws::the_settings_are_those_of_the_last_set();
     node_run::laws::the_entries_are_the_steps();
-    kept_runs::laws::a_run_over_a_book_is_one();
-    kept_runs::laws::the_call_of_a_move_comes_before_its_step();
-    node_connections::laws::the_bytes_of_a_connection_are_in_order();
-    joined_nodes::laws::woven_nodes_run_behind_the_reading();
-    joined_ports::laws::what_carries_bytes_in_order_is_enough();
+    law_node_runs::kept_runs::a_run_over_a_book_is_one();
+    law_node_runs::kept_runs::the_call_of_a_move_comes_before_its_step();
+    law_node_runs::node_connections::the_bytes_of_a_connection_are_in_order();
+    law_joined_nodes::joined_nodes::woven_nodes_run_behind_the_reading();
+    law_joined_nodes::joined_ports::what_carries_bytes_in_order_is_enough();
     restart_book::laws::a_book_has_one_answer();
     restart_book::laws::a_kept_book_is_resumed();
     run_with_book(alloc, words, file, ports, clock, log, book)

@@ -1,12 +1,12 @@
-ghost use Rattle.one_run.specs.One.{EachPartIsAFront, EachRunIsOne};
-ghost use Rattle.joined_nodes.specs.Laws.{NodesStand};
-ghost use Rattle.joined_ports.specs.Poured.{PouredStand};
+ghost use Rattle.law_node_runs.specs.One.{EachPartIsAFront, EachRunIsOne};
+ghost use Rattle.law_joined_nodes.specs.Laws.{NodesStand};
+ghost use Rattle.law_joined_nodes.specs.Poured.{PouredStand};
 ghost use Rattle.node_cli.specs.Answered.{EachInputHasOneAnswer, EachOutsideHasOneAnswer, IsAnswered};
 ghost use Rattle.node_commands.specs.Command.{DoesNode, FitsNode, HasCauses, is_one};
 ghost use Rattle.node_cli.specs.Logged.{LogTellsOwn, TextIsBounded};
-ghost use Rattle.node_connections.specs.Connections.{ConnectionsAreInOrder};
+ghost use Rattle.law_node_runs.specs.Connections.{ConnectionsAreInOrder};
 ghost use Rattle.node_run.specs.Settled.{SettingsAreTheLast};
-ghost use Rattle.running_line.specs.Reading.{Behind};
+ghost use Rattle.law_running_line.specs.Reading.{Behind};
 
 use line_base::Words;
 use line_outside::{Clock, Ports, Sink, Source};
@@ -68,11 +68,11 @@ pub fn node_main<S: Source, P: Ports, C: Clock, K: Sink>(
 {
     node_run::laws::what_a_machine_owns_is_read_off_its_log();
     node_run::laws::too_much_text_closes_a_way();
-    one_run::laws::a_run_is_one();
-    each_run::laws::each_outside_has_one_run();
-    node_connections::laws::the_bytes_of_a_connection_are_in_order();
+    law_node_runs::one_run::a_run_is_one();
+    law_node_runs::each_run::each_outside_has_one_run();
+    law_node_runs::node_connections::the_bytes_of_a_connection_are_in_order();
     node_run::laws::the_settings_are_those_of_the_last_set();
-    joined_nodes::laws::woven_nodes_run_behind_the_reading();
-    joined_ports::laws::what_carries_bytes_in_order_is_enough();
+    law_joined_nodes::joined_nodes::woven_nodes_run_behind_the_reading();
+    law_joined_nodes::joined_ports::what_carries_bytes_in_order_is_enough();
     run_named(alloc, words, file, ports, clock, log)
 }

@@ -97,7 +97,8 @@ fn tell_line(
     written(write!(to, "\n"))
 }
 
-fn way_word(way: Way) -> &'static str {
+/// A way's word in a case.
+pub fn way_word(way: Way) -> &'static str {
     match way {
         Way::Panel => "panel",
         Way::Upstream => "up",
@@ -107,14 +108,16 @@ fn way_word(way: Way) -> &'static str {
     }
 }
 
-fn opened_word(opened: Opened) -> &'static str {
+/// What came of a listen or a connect, after a space; nothing where it was done.
+pub fn opened_word(opened: Opened) -> &'static str {
     match opened {
         Opened::Done => "",
         Opened::Failed => " !failed",
     }
 }
 
-fn got_word(got: Got) -> &'static str {
+/// What a poll found, after a space; nothing where it found bytes.
+pub fn got_word(got: Got) -> &'static str {
     match got {
         Got::Arrived => " !arrived",
         Got::Second => " !second",
@@ -125,7 +128,8 @@ fn got_word(got: Got) -> &'static str {
     }
 }
 
-fn sent_word(sent: Sent) -> &'static str {
+/// What came of a send, after a space; nothing where bytes were taken.
+pub fn sent_word(sent: Sent) -> &'static str {
     match sent {
         Sent::Took(_) => "",
         Sent::NotYet => " !not-yet",

@@ -2,31 +2,28 @@ use crate::answers::answer_of;
 use crate::books::{book_of, tell_book};
 use crate::calls::{tell_calls, written};
 use crate::ends::{tell_named, tell_status};
-use case_text::spell;
-use line_base::{Memory, Moment, Word, Words};
+use crate::inputs::{LOG_BYTES, TOLD_BYTES, TOLD_CALLS, settings_of, words_of};
+use crate::limits::tell_limit;
+use line_base::{Memory, Moment};
 use line_outside::{FixedClock, MemoryPorts, MemorySink, MemorySource, PortAnswer};
 use node_cli::{BookStatus, NodeStatus, node_book_main};
 use std::alloc::Global;
 use std::io::Write;
 
-/// For how many calls, and how many bytes of them, ports tell.
-const TOLD_CALLS: usize = 20_000;
-
-const TOLD_BYTES: usize = 4_000_000;
-
-/// How many bytes of the log are kept.
-const LOG_BYTES: usize = 4_000_000;
-
 /// Tells a case: its first line, the calls of the ports, the log, the book where the case has one, how
-/// the run ends, and what is said of that. A first line `an end: NAME` is a case of the end of that name alone.
+/// the run ends, and what is said of that. A first line `an end: NAME` is a case of the end of that name alone,
+/// `at a limit: NAME` one whose texts are counted.
 pub fn tell_case(alloc: Global, case: &str, to: &mut Vec<u8>) -> Result<(), Memory> {
     let (head, body) = case.split_once('\n').unwrap_or((case, ""));
     written(write!(to, "=== {head}\n"))?;
     let (words, faults) = head.split_once(", ").unwrap_or((head, ""));
-    match words.strip_prefix("an end: ") {
-        Some(name) => tell_named(alloc, name, pushes_of(faults), to),
-        None => tell_run(alloc, words, faults, body, to),
+    if let Some(name) = words.strip_prefix("an end: ") {
+        return tell_named(alloc, name, pushes_of(faults), to);
     }
+    if words.starts_with("at a limit: ") {
+        return tell_limit(alloc, faults, body, to);
+    }
+    tell_run(alloc, words, faults, body, to)
 }
 
 /// A run that ends for want of memory ends the program so, too, and nothing of the case is told.
@@ -55,28 +52,6 @@ fn tell_run(
     tell_log(&log, to)?;
     tell_book(&book, body, to)?;
     tell_status(alloc, status, &[], to)
-}
-
-fn words_of(alloc: Global, text: &str) -> Result<Words, Memory> {
-    let mut words = Words::new(alloc);
-    for word in text.split(' ') {
-        if !word.is_empty() && word != "-" {
-            words.push(Word::of(alloc, word.as_bytes())?)?;
-        }
-    }
-    Ok(words)
-}
-
-/// The settings file: the lines that begin neither with `<` nor with `@`.
-fn settings_of(alloc: Global, body: &str) -> Result<Vec<u8>, Memory> {
-    let mut bytes = Vec::new(alloc);
-    for line in body.lines() {
-        if !line.starts_with("< ") && !line.starts_with("@ ") {
-            spell(line, &mut bytes)?;
-            append(b"\n", &mut bytes)?;
-        }
-    }
-    Ok(bytes)
 }
 
 fn append(bytes: &[u8], to: &mut Vec<u8>) -> Result<(), Memory> {

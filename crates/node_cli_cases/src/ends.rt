@@ -76,7 +76,8 @@ fn name_status(status: BookStatus, to: &mut Vec<u8>) -> Result<(), Memory> {
     }
 }
 
-fn name_node_status(status: NodeStatus, to: &mut Vec<u8>) -> Result<(), Memory> {
+/// Tells how a run without a book ends.
+pub fn name_node_status(status: NodeStatus, to: &mut Vec<u8>) -> Result<(), Memory> {
     match status {
         NodeStatus::ConfigRefused(key, why) => {
             written(write!(to, "--- ConfigRefused, {key}: {why:?}\n"))

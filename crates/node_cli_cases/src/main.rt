@@ -7,6 +7,8 @@ mod books;
 mod calls;
 mod cases;
 mod ends;
+mod inputs;
+mod limits;
 
 use crate::cases::tell_case;
 use std::io;

@@ -1,6 +1,6 @@
 -- What the program does over a book, by how its call ends.
 use Rattle.std.proofs.Common.{◌≡◌, ◌∙◌, sym, subst, refl, ap, ℕ, ℤ, ◌+◌, Bool, true, false, List, [], ◌++◌, Option, None, Some, Result, Ok, Err, inl, inr, ◌≤◌, ◌<◌, arith, length, drop, length-append, append-nil, option_map}
-use Rattle.entry_step.specs.Steps.{spelled}
+use Rattle.book_entry.specs.Steps.{spelled}
 use Rattle.book_keeper.specs.Keeping.{IsCut}
 use Rattle.line_outside.proofs.Growing.{rose_after}
 use Rattle.line_outside.specs.Given.{Given}

@@ -4,7 +4,7 @@
 use Rattle.std.specs.Prelude.{◌≡◌, ◌≤◌, ◌<◌, ◌+◌, ◌++◌, ◌⊎◌, ℕ, ℤ, Bool, true, false, List, Option, None, Some, Result, Ok, Err, length, take}
 use Rattle.book_entry.specs.declared.entry.Entry.{Entry}
 use Rattle.book_keeper.specs.Keeping.{IsCut}
-use Rattle.entry_step.specs.Steps.{AreEntries, spelled}
+use Rattle.book_entry.specs.Steps.{AreEntries, spelled}
 use Rattle.line_outside.specs.Faults.{Rose}
 use Rattle.line_outside.specs.Given.{Given}
 use Rattle.line_outside.specs.declared.way.Address.{Address}

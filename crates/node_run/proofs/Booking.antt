@@ -12,7 +12,7 @@ use Rattle.line_outside.specs.Sink.{Grows, GrowsInPart}
 use Rattle.line_outside.specs.declared.way.Address.{Address}
 use Rattle.book_entry.specs.Spelling.{spelling}
 use Rattle.book_entry.specs.declared.entry.Entry.{Entry}
-use Rattle.entry_step.specs.Steps.{AreEntries, spelled}
+use Rattle.book_entry.specs.Steps.{AreEntries, spelled}
 use Rattle.node_run.specs.Booked.{BookedEnds, HasBookedCauses, HasForm, HasRunKept, HasRunKeptInPart, IsBookedStatus, IsKept, StopsUnkept, begins_kept, calls_as_ever, calls_none, differ, entries_of, goes_on_kept, hears_gone, last_entry, makes_step, most_book, moves_as_ever, spelled_of}
 use Rattle.node_run.specs.Booking.{Appends, DoesOnceKept, EndsKept, FailsKeep, FailsLogKept, FailsMemoryKept, GoesOnKept, GoesOut, IsOnceBooked, KeepsStep, GoesAgain, MakesAgain, MissesAgain, StopsOnce, for_entry, in_move}
 use Rattle.node_run.specs.Gone.{HearsGone, begins_again, gone_at}

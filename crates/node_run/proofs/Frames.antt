@@ -11,7 +11,7 @@ use Rattle.line_outside.specs.declared.way.Address.{Address}
 use Rattle.board_record.specs.declared.sensed.Sensed.{Sensed}
 use Rattle.line_script.specs.declared.line.LineWhy.{LineWhy}
 use Rattle.book_entry.specs.declared.entry.Entry.{Entry as BookEntry}
-use Rattle.entry_step.specs.Given.{entry_of}
+use Rattle.book_entry.specs.Given.{entry_of}
 use Rattle.node_core.specs.May.{may_of}
 use Rattle.node_core.specs.Node.{NodeState}
 use Rattle.node_core.specs.declared.act.Act.{Act}

@@ -26,7 +26,7 @@ use Rattle.line_report.specs.declared.happening.Reason.TheVariants as reasons
 use Rattle.handover_out.specs.State as outlets
 use Rattle.handover_in.specs.State as intakes
 use Rattle.node_core.proofs.Lasting.{may_alone, owns_after as steps_own}
-use Rattle.entry_step.specs.Given.{entry_of}
+use Rattle.book_entry.specs.Given.{entry_of}
 use Rattle.node_core.specs.May.{may_of, may_do}
 use Rattle.node_core.specs.Node.{NodeState}
 use Rattle.node_core.specs.Own.{own_of, own_after}

@@ -2,8 +2,8 @@
 use Rattle.std.proofs.Common.{◌≡◌, ◌∙◌, sym, subst, ap, refl, ℕ, ℤ, Bool, true, false, not, List, [], ◌∷◌, ◌++◌, Some, append_assoc, append-nil}
 use Rattle.line_outside.specs.Given.{Given}
 use Rattle.book_entry.specs.declared.entry.Entry.{Entry}
-use Rattle.entry_step.specs.Given.{entry_of}
-use Rattle.entry_step.specs.Steps.{DoesEntry, Replays}
+use Rattle.book_entry.specs.Given.{entry_of}
+use Rattle.book_entry.specs.Steps.{DoesEntry, Replays}
 use Rattle.node_core.specs.Node.{NodeState}
 use Rattle.node_core.specs.declared.act.Act.{Act}
 use Rattle.node_run.specs.Booked.{EntriesAreTheSteps, IsReplayed, MovesAgain, RunsKept, begins_kept, differ, entries_if, entries_of, goes_on_kept, hears_gone, moves_as_ever}

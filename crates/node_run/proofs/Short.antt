@@ -1,15 +1,15 @@
 -- What a line gives to the machine is short enough for an entry of the book, and what the machine may
 -- be given has one.
 use Rattle.std.proofs.Common.{◌≡◌, sym, subst}
-use Rattle.entry_step.proofs.Given.{of_one_lane}
-use Rattle.entry_step.specs.Given.{IsOfOneLane, own_of}
-use Rattle.entry_step.specs.Short.{IsShort}
+use Rattle.book_entry.proofs.Given.{of_one_lane}
+use Rattle.book_entry.specs.Given.{IsOfOneLane, own_of}
+use Rattle.book_entry.specs.Short.{IsShort}
 use Rattle.node_core.specs.May.{may_do, may_of}
 use Rattle.node_core.specs.Node.{NodeState}
 use Rattle.node_core.specs.declared.input.Input.{Input}
 use Rattle.node_panel.specs.declared.line.PanelLine.{PanelLine}
 use Rattle.node_panel.specs.declared.line.PanelLine.TheVariants as lines
-use Rattle.panel_inputs.specs.Inputs.{input_of}
+use Rattle.node_panel.specs.Inputs.{input_of}
 
 short_input : (line : PanelLine) → IsShort (own_of (input_of line))
 short_input (lines.Insert barcode) = tt

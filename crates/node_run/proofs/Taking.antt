@@ -11,7 +11,7 @@ use Rattle.hermes_vertical.specs.declared.kind.VerticalKind.{VerticalKind}
 use Rattle.hermes_vertical.specs.declared.message.Vertical.{Vertical}
 use Rattle.supervisory_core.specs.Row.{SupervisedRow}
 use Rattle.supervisory_core.specs.Told.{unexpected}
-use Rattle.entry_step.specs.Given.{entry_of}
+use Rattle.book_entry.specs.Given.{entry_of}
 use Rattle.node_core.specs.May.{may_of}
 use Rattle.node_core.specs.declared.act.Act.{Act}
 use Rattle.node_core.specs.declared.input.Input.{Input}

@@ -4,7 +4,7 @@ use Rattle.std.specs.Prelude.{◌≡◌, ◌≤◌, ◌<◌, ◌+◌, ◌++◌, 
 use Rattle.std.specs.List.{All}
 use Rattle.book_entry.specs.Spelling.{IsEntry, spelling}
 use Rattle.book_entry.specs.declared.entry.Entry.{Entry}
-use Rattle.entry_step.specs.Steps.{AreEntries, Replays, spelled}
+use Rattle.book_entry.specs.Steps.{AreEntries, Replays, spelled}
 use Rattle.line_outside.specs.Faults.{Rose}
 use Rattle.line_outside.specs.Given.{Given}
 use Rattle.line_outside.specs.Ports.{Gains}

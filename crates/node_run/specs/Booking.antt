@@ -4,7 +4,7 @@ use Rattle.line_outside.specs.Faults.{Rose}
 use Rattle.line_outside.specs.Given.{Given}
 use Rattle.line_outside.specs.Sink.{Grows, GrowsInPart}
 use Rattle.book_entry.specs.declared.entry.Entry.{Entry}
-use Rattle.entry_step.specs.Steps.{spelled}
+use Rattle.book_entry.specs.Steps.{spelled}
 use Rattle.line_outside.specs.Ports.{Gains}
 use Rattle.node_run.specs.Booked.{CallsAgain, IsKept, MovesAgain, entries_if, entries_of, makes_step, most_book}
 use Rattle.node_run.specs.Gone.{begins_again}

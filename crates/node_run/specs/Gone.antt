@@ -3,7 +3,7 @@
 -- in other turns. Nobody is there yet: what it says in such a step is said to nobody.
 use Rattle.std.specs.Prelude.{◌≡◌, ◌&&◌, ℕ, ℤ, Bool, true, false, nat_lt, List, [], Option, None, Some, Result, Ok, Err}
 use Rattle.line_base.specs.declared.states.Side.TheVariants.{Entry, Exit}
-use Rattle.entry_step.specs.Given.{entry_of}
+use Rattle.book_entry.specs.Given.{entry_of}
 use Rattle.machine_log.specs.Account.{AreProper}
 use Rattle.machine_log.specs.Texts.{lines_of}
 use Rattle.node_core.specs.May.{may_of}

@@ -16,7 +16,7 @@ use Rattle.node_core.specs.declared.input.No.TheVariants as nos
 use Rattle.node_panel.specs.Panel.{panel_line_of}
 use Rattle.node_panel.specs.declared.line.PanelLine.{PanelLine}
 use Rattle.node_panel.specs.declared.line.PanelLine.TheVariants as lines
-use Rattle.panel_inputs.specs.Inputs.{input_of, sensed_of}
+use Rattle.node_panel.specs.Inputs.{input_of, sensed_of}
 use Rattle.node_run.specs.declared.rules.Rules.{Rules}
 use Rattle.node_run.specs.State.{RunState, echoed}
 use Rattle.node_run.specs.Next.{has_ended}

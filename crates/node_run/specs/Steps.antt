@@ -7,7 +7,7 @@ use Rattle.line_base.specs.declared.states.Side.TheVariants.{Entry, Exit}
 use Rattle.line_outside.specs.declared.way.Way.TheVariants as ways
 use Rattle.board_record.specs.declared.sensed.Sensed.{Sensed}
 use Rattle.book_entry.specs.declared.entry.Entry.{Entry as BookEntry}
-use Rattle.entry_step.specs.Given.{entry_of}
+use Rattle.book_entry.specs.Given.{entry_of}
 use Rattle.hermes_horizontal.specs.Canonical.{canonical}
 use Rattle.node_core.specs.Node.{NodeState}
 use Rattle.node_core.specs.Step.{Steps}

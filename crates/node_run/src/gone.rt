@@ -1,8 +1,8 @@
 //! Turn 0 of a machine that begins again: it hears which connections are gone.
 
 ghost use Rattle.std.specs.Prelude.{◌≡◌, ◌≤◌, [], true, Ok, OnOk, IfSome};
-ghost use Rattle.entry_step.specs.Given.{own_of};
-ghost use Rattle.entry_step.specs.Short.{IsShort};
+ghost use Rattle.book_entry.specs.Given.{own_of};
+ghost use Rattle.book_entry.specs.Short.{IsShort};
 ghost use Rattle.node_core.specs.May.{may_of, may_do};
 ghost use Rattle.node_run.specs.Gone.{HearsGone, HearsIf, StepsAlone, StepsIf, begins_again, gone_at, is_behind_listens};
 

@@ -1,14 +1,14 @@
 //! The last step of the machine.
 
 ghost use Rattle.std.specs.Prelude.{◌≡◌, ◌≤◌, IfOk, OnOk, length};
-ghost use Rattle.entry_step.specs.Given.{IsOfOneLane, entry_of, own_of};
-ghost use Rattle.entry_step.specs.Short.{IsShort};
+ghost use Rattle.book_entry.specs.Given.{IsOfOneLane, entry_of, own_of};
+ghost use Rattle.book_entry.specs.Short.{IsShort};
 ghost use Rattle.node_run.specs.State.{no_step, one_more};
 ghost use Rattle.node_run.specs.Booked.{HasForm, differ, spelled_of};
 
 use crate::run::Run;
 use board_record::Sensed;
-use entry_step::{Entry, own_entry, write_entry};
+use book_entry::{Entry, own_entry, write_entry};
 use line_base::{Memory, Moment};
 use node_core::Input;
 use std::alloc::Global;

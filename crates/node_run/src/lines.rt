@@ -1,14 +1,14 @@
 //! The panel's lines.
 
 ghost use Rattle.std.specs.Prelude.{◌≡◌, ◌==◌, ◌≤◌, ◌<◌, [], Ok, OnOk, IfOk, IfSome, length, drop, position};
-ghost use Rattle.entry_step.specs.Given.{own_of};
-ghost use Rattle.entry_step.specs.Short.{IsShort};
+ghost use Rattle.book_entry.specs.Given.{own_of};
+ghost use Rattle.book_entry.specs.Short.{IsShort};
 ghost use Rattle.node_core.specs.May.{may_of};
 ghost use Rattle.node_run.specs.Lines.{AsksConnect, DoesAsked, DoesInput, DoesLine, Ends, Fronts, Tells, cut_line, without_return};
 ghost use Rattle.node_run.specs.Cuts.{HasCut, fronted};
 ghost use Rattle.node_panel.specs.Panel.{panel_line_of};
 ghost use Rattle.machine_log.specs.Texts.{no_line, refused_line};
-ghost use Rattle.panel_inputs.specs.Inputs.{input_of};
+ghost use Rattle.node_panel.specs.Inputs.{input_of};
 
 use crate::run::Run;
 use crate::status::NodeStatus;
@@ -18,8 +18,7 @@ use line_report::Reason;
 use line_script::{LineError, LineWhy, MOST_LINE_BYTES};
 use machine_log::{write_no, write_refused};
 use node_core::{Input, No};
-use node_panel::{PanelLine, read_panel_line};
-use panel_inputs::input_of;
+use node_panel::{PanelLine, input_of, read_panel_line};
 use std::mem;
 
 impl Run {

@@ -2,8 +2,8 @@
 
 ghost use Rattle.std.specs.Prelude.{◌≡◌, ◌++◌, ◌≤◌, [], ◌∷◌, true, false, IfOk, OnOk, length};
 ghost use Rattle.line_base.specs.declared.states.Side.TheVariants.{Exit};
-ghost use Rattle.entry_step.specs.Given.{own_of};
-ghost use Rattle.entry_step.specs.Short.{IsShort};
+ghost use Rattle.book_entry.specs.Given.{own_of};
+ghost use Rattle.book_entry.specs.Short.{IsShort};
 ghost use Rattle.node_core.specs.May.{may_of, may_do};
 ghost use Rattle.node_core.specs.declared.act.Act.TheVariants as acts;
 ghost use Rattle.node_core.specs.declared.input.Input.TheVariants as inputs;

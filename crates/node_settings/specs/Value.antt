@@ -6,7 +6,7 @@ use Rattle.line_base.specs.Text.{is_allowed_char}
 use Rattle.line_base.specs.Results.{mapped_ok}
 use Rattle.line_outside.specs.declared.way.Address.{Address}
 use Rattle.toml.specs.Data.{Data, string, integer, boolean}
-use Rattle.host_address.specs.Address.{address_of}
+use Rattle.line_outside.specs.Address.{address_of}
 use Rattle.node_settings.specs.declared.key.ConfigWhy.{ConfigWhy}
 use Rattle.node_settings.specs.declared.key.ConfigWhy.TheVariants as whys
 

@@ -6,9 +6,8 @@ ghost use Rattle.node_settings.specs.Value.{number_as, number_in, id_text_as, id
 ghost use Rattle.node_settings.specs.declared.key.ConfigKey.TheVariants as keys;
 
 use crate::key::{ConfigKey, ConfigWhy, SettingsError};
-use host_address::address_of;
 use line_base::{Text, TextError};
-use line_outside::Address;
+use line_outside::{Address, address_of};
 use std::alloc::Global;
 use toml::{Table, Value};
 

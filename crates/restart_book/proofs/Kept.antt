@@ -4,7 +4,7 @@ use Rattle.std.proofs.lemmas.List.{drop_at, take_at}
 use Rattle.book_entry.specs.Fronts.{IsFront}
 use Rattle.book_entry.specs.Spelling.{spelling}
 use Rattle.book_entry.specs.declared.entry.Entry.{Entry}
-use Rattle.entry_step.specs.Steps.{AreEntries, Replays, spelled}
+use Rattle.book_entry.specs.Steps.{AreEntries, Replays, spelled}
 use Rattle.node_core.specs.Node.{NodeState}
 use Rattle.node_core.specs.declared.act.Act.{Act}
 use Rattle.restart_book.specs.Kept.{KeptBooksAreResumed}

@@ -13,10 +13,10 @@ use Rattle.book_entry.specs.Spelling.{spelling}
 use Rattle.book_entry.specs.declared.entry.Entry.{Entry}
 use Rattle.book_entry.specs.declared.entry.OwnInput.{OwnInput}
 use Rattle.book_entry.specs.declared.entry.OwnInput.TheVariants as own
-use Rattle.entry_step.specs.Given.{IsOfOneLane, own_of}
-use Rattle.entry_step.proofs.Given.{of_one_lane}
-use Rattle.entry_step.specs.Steps.{AreEntries, DoesEntry, DoesInput, IsRefused, Replays, spelled}
-use Rattle.line_step.proofs.Once.{AreAlike, IsDry, OneMeaning, StepsOnce, steps-bytes, steps-dry}
+use Rattle.book_entry.specs.Given.{IsOfOneLane, own_of}
+use Rattle.book_entry.proofs.Given.{of_one_lane}
+use Rattle.book_entry.specs.Steps.{AreEntries, DoesEntry, DoesInput, IsRefused, Replays, spelled}
+use Rattle.step_rules.proofs.Once.{AreAlike, IsDry, OneMeaning, StepsOnce, steps-bytes, steps-dry}
 use Rattle.machine_log.specs.Drives.{all_off, drives_after}
 use Rattle.node_core.specs.May.{may_of, may_do}
 use Rattle.node_core.specs.Node.{NodeState, new_node}

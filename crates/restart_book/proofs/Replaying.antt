@@ -4,9 +4,9 @@ use Rattle.std.proofs.lemmas.List.{drop-drop}
 use Rattle.book_entry.specs.Fronts.{Begins, IsBad, IsFound, IsFront}
 use Rattle.book_entry.specs.Spelling.{IsEntry, spelling}
 use Rattle.book_entry.specs.declared.entry.Entry.{Entry}
-use Rattle.entry_step.specs.Steps.{AreEntries, DoesEntry, Replays, spelled}
-use Rattle.entry_step.specs.declared.stepping.StepError.{StepError}
-use Rattle.entry_step.specs.declared.stepping.StepError.TheVariants as steps
+use Rattle.book_entry.specs.Steps.{AreEntries, DoesEntry, Replays, spelled}
+use Rattle.book_entry.specs.declared.stepping.StepError.{StepError}
+use Rattle.book_entry.specs.declared.stepping.StepError.TheVariants as steps
 use Rattle.machine_log.specs.Drives.{all_off, drives_act, drives_after}
 use Rattle.machine_log.specs.declared.drives.Drives.{Drives}
 use Rattle.node_core.specs.Node.{NodeState, new_node}

@@ -2,7 +2,7 @@
 -- were made from there. It is resumed where they led.
 use Rattle.std.specs.Prelude.{ℕ, List, ◌+◌, ◌++◌, length, take}
 use Rattle.book_entry.specs.declared.entry.Entry.{Entry}
-use Rattle.entry_step.specs.Steps.{AreEntries, Replays, spelled}
+use Rattle.book_entry.specs.Steps.{AreEntries, Replays, spelled}
 use Rattle.node_core.specs.Node.{NodeState}
 use Rattle.node_core.specs.declared.act.Act.{Act}
 use Rattle.restart_book.specs.Replay.{IsResumed}

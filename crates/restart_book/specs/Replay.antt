@@ -3,9 +3,9 @@
 use Rattle.std.specs.Prelude.{◌≡◌, ℕ, List, ◌++◌, Option, None, Some, Result, Ok, Err, length, drop}
 use Rattle.book_entry.specs.Fronts.{Begins, IsBad, IsFound, IsFront}
 use Rattle.book_entry.specs.declared.entry.Entry.{Entry}
-use Rattle.entry_step.specs.Steps.{AreEntries, DoesEntry, IsRefused, Replays, spelled}
-use Rattle.entry_step.specs.declared.stepping.StepError.{StepError}
-use Rattle.entry_step.specs.declared.stepping.StepError.TheVariants as steps
+use Rattle.book_entry.specs.Steps.{AreEntries, DoesEntry, IsRefused, Replays, spelled}
+use Rattle.book_entry.specs.declared.stepping.StepError.{StepError}
+use Rattle.book_entry.specs.declared.stepping.StepError.TheVariants as steps
 use Rattle.machine_log.specs.Drives.{all_off, drives_after}
 use Rattle.machine_log.specs.declared.drives.Drives.{Drives}
 use Rattle.node_core.specs.Node.{NodeState, new_node}

@@ -2,8 +2,7 @@ ghost use Rattle.std.specs.Prelude.{◌≡◌, OnOk, false, drop};
 ghost use Rattle.restart_book.specs.Replay.{Next, ReplaysBook, StepsFound};
 
 use crate::resuming::{BookWhy, ResumeError};
-use book_entry::{Entry, EntryError, read_entry};
-use entry_step::{StepError, step_entry};
+use book_entry::{Entry, EntryError, StepError, read_entry, step_entry};
 use machine_log::Drives;
 use node_core::Node;
 use std::alloc::Global;

@@ -3,3 +3,12 @@ pub mod Inputs
 pub mod Steps
 pub mod Acts
 pub mod Changing
+pub mod Quiet
+pub mod Opening
+pub mod Makers
+pub mod Hands
+pub mod Once
+pub mod Calm
+pub mod Halves
+pub mod Speaking
+pub mod SpokenSteps

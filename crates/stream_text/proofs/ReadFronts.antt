@@ -4,8 +4,8 @@ use Rattle.std.proofs.Common.{◌≡◌, ◌∙◌, ◌+◌, ◌++◌, inl, inr,
 use Rattle.std.specs.Prelude.{codes}
 use Rattle.hermes_horizontal.specs.Texts.{message_refusal_text}
 use Rattle.hermes_stream.specs.Frames.{frames_of}
-use Rattle.one_report.specs.Frames.{IsSpelledOrRefused, refused, spelled}
-use Rattle.one_report.proofs.Frames.{each_frame}
+use Rattle.law_one_report.specs.Frames.{IsSpelledOrRefused, refused, spelled}
+use Rattle.law_one_report.proofs.Frames.{each_frame}
 use Rattle.stream_text.specs.ReadText.{AreFrameLines, BeginsReadText, EachStreamHasOneReadText, IsFrameLine, IsReadText, message_text, most_read, read_ending, entry}
 
 -- ---- each frame has a line

@@ -1,7 +1,7 @@
 use Rattle.std.proofs.Common.{subst, sym}
 use Rattle.line_script.specs.Ranges.{IsWithin}
 use Rattle.line_script.specs.declared.line.ScriptLine.{ScriptLine}
-use Rattle.one_standing.specs.Standing.{IsFitLine}
+use Rattle.law_one_standing.specs.Standing.{IsFitLine}
 use Rattle.line_engine.proofs.line.is_fit_line.Goals as goal
 
 pub returns-in-Insert : goal.returns-in-Insert

@@ -1,6 +1,6 @@
 use Rattle.std.proofs.Common.{◌∙◌, ◌+◌, ◌++◌, List, ap, arith, drop, sym}
 use Rattle.node_core.specs.Node.{NodeState}
-use Rattle.line_lanes.specs.Shown.{front_shown, fronts_shown}
+use Rattle.law_lanes.specs.Shown.{front_shown, fronts_shown}
 use Rattle.line_engine.specs.Tracks.{states_of}
 use Rattle.line_engine.proofs.Showing.{fronts, lane_next, lanes_last}
 use Rattle.line_engine.proofs.tracks.show_others.Goals as goal

@@ -27,7 +27,7 @@ use Rattle.std.specs.declared.alloc.Global.{Global}
 use Rattle.std.specs.contracts.alloc.Global as heap
 use Rattle.std.specs.contracts.impls.GlobalAllocator.TheImpl.{ghosts}
 use Rattle.std.proofs.alloc.Global.TheLaws as heap_laws
-use Rattle.held.proofs.Values.{both, Loose, loose_good, loose_out}
+use Rattle.hermes_machine.proofs.Values.{both, Loose, loose_good, loose_out}
 use Rattle.machine_port.specs.contracts.port.Port.{the_row as R}
 use Rattle.hermes_machine.specs.contracts.slot.Slot as slot
 use Rattle.hermes_machine.specs.contracts.slot.Slot.full.{ended, clauses}

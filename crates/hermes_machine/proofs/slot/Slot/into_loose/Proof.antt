@@ -29,7 +29,7 @@ use Rattle.std.specs.Box.Ownership.{box_owns}
 use Rattle.std.specs.contracts.alloc.Global as heap
 use Rattle.std.specs.contracts.impls.GlobalAllocator.TheImpl.{ghosts}
 use Rattle.std.proofs.alloc.Global.TheLaws as heap_laws
-use Rattle.held.proofs.Values.{both, loose_good, loose_in}
+use Rattle.hermes_machine.proofs.Values.{both, loose_good, loose_in}
 use Rattle.hermes_machine.specs.Owned.{slot_owns}
 use Rattle.machine_port.specs.contracts.port.Port.{the_row as R}
 use Rattle.hermes_machine.specs.contracts.slot.Slot as slot

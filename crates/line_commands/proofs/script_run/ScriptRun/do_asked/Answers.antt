@@ -1,5 +1,5 @@
 use Rattle.std.proofs.Common.{◌≡◌, ◌+◌, false, ap, ◌∙◌, arith}
-use Rattle.line_lanes.specs.Lanes.{Lanes}
+use Rattle.law_lanes.specs.Lanes.{Lanes}
 use Rattle.line_commands.proofs.Folding.{did-asked}
 use Rattle.line_commands.proofs.script_run.ScriptRun.do_asked.Goals as goal
 

@@ -1,6 +1,6 @@
 use Rattle.std.proofs.Common.{◌≤◌, ◌+◌, arith, length, subst, sym}
 use Rattle.line_step.specs.State.{owned}
-use Rattle.line_lanes.specs.Lanes.{track}
+use Rattle.law_lanes.specs.Lanes.{track}
 use Rattle.line_marks.specs.AllMarks.{AreAscending}
 use Rattle.line_engine.proofs.Lanes.{states_wide}
 use Rattle.line_marks.proofs.Marking.{lanes_more, marks_ascend, none_beyond}

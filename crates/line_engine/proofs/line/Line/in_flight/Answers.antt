@@ -1,6 +1,6 @@
 use Rattle.std.proofs.Common.{◌≡◌, ◌∙◌, ap, false, subst, sym}
 use Rattle.std.specs.Option.{option_copied}
-use Rattle.line_lanes.specs.Lanes.{Lanes}
+use Rattle.law_lanes.specs.Lanes.{Lanes}
 use Rattle.line_engine.proofs.Viewed.{bytes_to, lane_there, none_to}
 use Rattle.line_engine.proofs.line.Line.in_flight.Goals as goal
 

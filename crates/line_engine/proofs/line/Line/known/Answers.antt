@@ -1,6 +1,6 @@
 use Rattle.std.proofs.Common.{false, subst, sym, ◌≡◌}
-use Rattle.line_lanes.specs.Lanes.{Lanes}
-use Rattle.line_lanes.specs.Along.{IsLaneReached}
+use Rattle.law_lanes.specs.Lanes.{Lanes}
+use Rattle.law_lanes.specs.Along.{IsLaneReached}
 use Rattle.line_engine.proofs.Seen.{seen_as}
 use Rattle.line_engine.proofs.line.Line.known.Goals as goal
 

@@ -1,6 +1,6 @@
 use Rattle.std.proofs.Common.{◌≡◌, ◌∙◌, ap, false, subst, sym}
 use Rattle.std.specs.Option.{option_copied}
-use Rattle.line_lanes.specs.Lanes.{Lanes}
+use Rattle.law_lanes.specs.Lanes.{Lanes}
 use Rattle.line_engine.proofs.Viewed.{marks_past, marks_there}
 use Rattle.line_engine.proofs.line.Line.marks.Goals as goal
 

@@ -1,6 +1,6 @@
 use Rattle.std.proofs.Common.{refl, subst, sym, true, ◌≡◌}
-use Rattle.line_lanes.specs.Along.{IsLaneReached}
-use Rattle.line_lanes.specs.Lanes.{Lanes}
+use Rattle.law_lanes.specs.Along.{IsLaneReached}
+use Rattle.law_lanes.specs.Lanes.{Lanes}
 use Rattle.line_engine.specs.Kept.{is_counted}
 use Rattle.line_engine.proofs.Nexts.{none_reached}
 use Rattle.line_engine.proofs.line.Line.new.Goals as goal

@@ -1,5 +1,5 @@
 use Rattle.std.proofs.Common.{◌≡◌, ◌+◌, ◌≤◌, ℕ, false, refl, subst, sym}
-use Rattle.line_lanes.specs.Lanes.{Lanes, lines_of}
+use Rattle.law_lanes.specs.Lanes.{Lanes, lines_of}
 use Rattle.line_engine.specs.Tracks.{lanes_of}
 use Rattle.line_engine.proofs.Nexts.{reached_next}
 use Rattle.line_engine.proofs.Seen.{line_seen}

@@ -1,5 +1,5 @@
 use Rattle.std.proofs.Common.{◌≡◌, ◌∙◌, ap, false, subst, sym}
-use Rattle.line_lanes.specs.Lanes.{Lanes}
+use Rattle.law_lanes.specs.Lanes.{Lanes}
 use Rattle.line_engine.specs.Seats.{place_in}
 use Rattle.line_engine.proofs.Viewed.{standing_seen}
 use Rattle.line_engine.proofs.line.Line.standing.Goals as goal

@@ -1,21 +1,21 @@
 use Rattle.std.proofs.Common.{List, None, subst, sym, ◌∙◌, ◌≡◌, ◌≤◌, ℕ}
 use Rattle.std.proofs.lemmas.Result.{IfOk-weaker}
 use Rattle.std.specs.Prelude.{Err, IfOk, Ok, Result}
-use Rattle.line_bounds.specs.Within.{IsBounded}
+use Rattle.law_sentences.specs.Within.{IsBounded}
 use Rattle.line_report.specs.declared.happening.LaneHappening.{LaneHappening}
 use Rattle.line_step.specs.State.{LineState}
-use Rattle.one_standing.specs.Facts.{HasCustodyFacts}
-use Rattle.one_standing.specs.Reached.{FollowsLine, HasUniqueIds, IsReached}
-use Rattle.one_standing.specs.Standing.{HasOneStanding}
-use Rattle.line_lanes.specs.Along.{IsLaneReached, IsOnOneLane}
-use Rattle.line_lanes.specs.Lanes.{lines_of, track, unvouched_of}
-use Rattle.line_lanes.specs.Parts.{LaneLineSteps}
+use Rattle.law_one_standing.specs.Facts.{HasCustodyFacts}
+use Rattle.law_one_standing.specs.Reached.{FollowsLine, HasUniqueIds, IsReached}
+use Rattle.law_one_standing.specs.Standing.{HasOneStanding}
+use Rattle.law_lanes.specs.Along.{IsLaneReached, IsOnOneLane}
+use Rattle.law_lanes.specs.Lanes.{lines_of, track, unvouched_of}
+use Rattle.law_lanes.specs.Parts.{LaneLineSteps}
 use Rattle.line_engine.specs.Each.{AreVouchedAlike, EachLaneNow, EachNext}
 use Rattle.line_engine.specs.Next.{AnswersNext, BlameNext, ContentsNext, LedgerNext, OpeningsNext, OrderNext, ReplayNext}
 use Rattle.line_engine.proofs.Bounded.{bounded_behind}
 use Rattle.line_engine.proofs.Nexts.{Known, answers_next, blame_next, contents_next, each_next, each_now, ledger_next, line_counted, openings_next, order_next, reached_next, replay_next}
 use Rattle.line_engine.specs.Whole.{OverLanes}
-use Rattle.first_in_first_out.specs.Along.{GoInOrder}
+use Rattle.law_sentences.specs.Along.{GoInOrder}
 use Rattle.line_engine.proofs.WholeLedger.{ledger_whole}
 use Rattle.line_engine.proofs.WholeOrder.{order_whole}
 use Rattle.line_engine.proofs.line.Line.step.Goals as goal

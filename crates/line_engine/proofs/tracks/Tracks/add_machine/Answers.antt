@@ -9,7 +9,7 @@ use Rattle.line_report.specs.declared.happening.Happening.{Happening}
 use Rattle.line_step.specs.Reasons.{may_add, may_do}
 use Rattle.line_step.specs.Requests.{adds}
 use Rattle.line_step.specs.State.{LineState}
-use Rattle.line_lanes.specs.Steps.{RequestDoes}
+use Rattle.law_lanes.specs.Steps.{RequestDoes}
 use Rattle.line_engine.specs.Sharing.{grown}
 use Rattle.line_engine.specs.Tracks.{AreKept, HasRoom, TellsDone, made_told}
 use Rattle.line_engine.specs.declared.track.Track.{Track}

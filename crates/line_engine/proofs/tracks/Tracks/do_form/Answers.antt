@@ -1,7 +1,7 @@
 use Rattle.std.proofs.Common.{subst, sym}
 use Rattle.std.specs.Prelude.{OnOk}
 use Rattle.line_script.specs.declared.line.LaneLine.{LaneLine}
-use Rattle.line_lanes.specs.Steps.{LanesDo}
+use Rattle.law_lanes.specs.Steps.{LanesDo}
 use Rattle.line_engine.specs.Tracks.{TellsDone}
 use Rattle.line_engine.proofs.tracks.Tracks.do_form.Goals as goal
 

@@ -3,7 +3,7 @@ use Rattle.std.proofs.lemmas.Result.{on_ok_weaker}
 use Rattle.std.specs.Prelude.{OnOk}
 use Rattle.line_script.specs.declared.line.ScriptLine.{ScriptLine}
 use Rattle.line_step.specs.Requests.{request_of}
-use Rattle.line_lanes.specs.Steps.{RequestDoes}
+use Rattle.law_lanes.specs.Steps.{RequestDoes}
 use Rattle.line_engine.specs.Tracks.{TellsDone}
 use Rattle.line_engine.proofs.Requested.{nothing_done, shown_done}
 use Rattle.line_engine.proofs.tracks.Tracks.do_request.Goals as goal

@@ -1,7 +1,7 @@
 use Rattle.std.proofs.Common.{◌∙◌, ◌∷◌, ap, sym}
 use Rattle.std.specs.Option.{option_copied}
 use Rattle.line_step.specs.Reasons.{May, may_take_in}
-use Rattle.line_lanes.specs.Reasons.{and_may}
+use Rattle.law_lanes.specs.Reasons.{and_may}
 use Rattle.line_engine.specs.Tracks.{track_in}
 use Rattle.line_engine.proofs.OnTwo.{both_say, no_giver, no_taker, on_bridge, own_on, to_itself}
 use Rattle.line_engine.proofs.tracks.Tracks.may_shift.Goals as goal

@@ -1,7 +1,7 @@
 use Rattle.std.proofs.Common.{◌∙◌, List, [], length, sym}
 use Rattle.std.proofs.lemmas.Result.{IfOk-weaker}
 use Rattle.line_report.specs.declared.happening.LaneHappening.{LaneHappening}
-use Rattle.line_lanes.specs.Parts.{LaneLineSteps, stop_parts}
+use Rattle.law_lanes.specs.Parts.{LaneLineSteps, stop_parts}
 use Rattle.line_engine.specs.Each.{Plays}
 use Rattle.line_engine.specs.Tracks.{lanes_of}
 use Rattle.line_engine.proofs.Lanes.{states_wide}

@@ -1,6 +1,6 @@
 use Rattle.std.proofs.Common.{List, length, subst}
 use Rattle.line_report.specs.declared.happening.LaneHappening.{LaneHappening}
-use Rattle.line_lanes.specs.Parts.{stop_parts}
+use Rattle.law_lanes.specs.Parts.{stop_parts}
 use Rattle.line_engine.specs.Each.{Plays}
 use Rattle.line_engine.specs.Tracks.{lanes_of}
 use Rattle.line_engine.proofs.tracks.Tracks.play_stop.Goals as goal

@@ -4,7 +4,7 @@ use Rattle.std.proofs.lemmas.List.{nil_from_length}
 use Rattle.std.proofs.lemmas.Result.{on_ok_weaker}
 use Rattle.node_core.specs.Node.{NodeState}
 use Rattle.line_script.specs.declared.line.LaneLine.TheVariants as lane_lines
-use Rattle.line_lanes.specs.Steps.{LanesDo}
+use Rattle.law_lanes.specs.Steps.{LanesDo}
 use Rattle.line_engine.specs.declared.track.Track.{Track}
 use Rattle.line_engine.specs.Tracks.{AreKept, TellsDone, empty_track, empty_tracks}
 use Rattle.line_engine.proofs.Setting.{lanes_set, set_refused}

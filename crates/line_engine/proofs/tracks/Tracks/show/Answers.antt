@@ -1,6 +1,6 @@
 use Rattle.std.proofs.Common.{◌∙◌, ◌++◌, List, ap, length, sym}
 use Rattle.node_core.specs.Node.{NodeState}
-use Rattle.line_lanes.specs.Shown.{all_shown}
+use Rattle.law_lanes.specs.Shown.{all_shown}
 use Rattle.line_engine.specs.Tracks.{states_of}
 use Rattle.line_engine.proofs.Showing.{fronts, machines_first, shows_end, shows_next}
 use Rattle.line_engine.proofs.tracks.Tracks.show.Goals as goal

@@ -1,5 +1,5 @@
 use Rattle.std.proofs.Common.{◌≡◌, ◌+◌, ◌-◌, ◌++◌}
-use Rattle.line_lanes.specs.Shown.{all_shown}
+use Rattle.law_lanes.specs.Shown.{all_shown}
 use Rattle.line_engine.specs.Tracks.{states_of}
 use Rattle.line_engine.proofs.Showing.{fronts}
 use Rattle.line_engine.proofs.tracks.Tracks.show.Given as goal

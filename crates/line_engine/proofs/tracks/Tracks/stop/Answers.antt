@@ -1,6 +1,6 @@
 use Rattle.std.proofs.Common.{◌≡◌, ◌∙◌, ◌+◌, ◌-◌, ℕ, ap, arith, subst, sym}
 use Rattle.std.proofs.lemmas.Result.{on_ok_weaker}
-use Rattle.line_lanes.specs.Parts.{stop_parts}
+use Rattle.law_lanes.specs.Parts.{stop_parts}
 use Rattle.line_engine.specs.Each.{Plays}
 use Rattle.line_engine.specs.Tracks.{lanes_of}
 use Rattle.line_engine.proofs.Played.{LanesLeft, lane_less, lanes_end, stop_played}

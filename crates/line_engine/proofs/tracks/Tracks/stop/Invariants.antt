@@ -1,5 +1,5 @@
 use Rattle.std.proofs.Common.{◌≡◌, ◌+◌}
-use Rattle.line_lanes.specs.Lanes.{lines_of}
+use Rattle.law_lanes.specs.Lanes.{lines_of}
 use Rattle.line_engine.specs.Tracks.{AreKept, lanes_of}
 use Rattle.line_engine.proofs.Played.{LanesLeft}
 use Rattle.line_engine.proofs.tracks.Tracks.stop.Given as goal

@@ -3,7 +3,7 @@ use Rattle.std.proofs.lemmas.Bool.{false_from_ne_true}
 use Rattle.std.proofs.lemmas.List.{drop_more}
 use Rattle.line_report.specs.declared.summary.Summary.{Summary}
 use Rattle.line_step.specs.Views.{summary_of}
-use Rattle.line_lanes.specs.Views.{summary_on}
+use Rattle.law_lanes.specs.Views.{summary_on}
 use Rattle.line_engine.specs.Kept.{is_counted}
 use Rattle.line_engine.specs.Summed.{added_up, is_told, summed}
 use Rattle.line_engine.specs.Tracks.{lanes_of}

@@ -1,6 +1,6 @@
 use Rattle.std.proofs.Common.{◌∙◌, List, subst, sym}
 use Rattle.std.proofs.lemmas.Result.{on_ok_weaker}
-use Rattle.line_lanes.specs.Steps.{RequestDoes}
+use Rattle.law_lanes.specs.Steps.{RequestDoes}
 use Rattle.line_step.specs.Requests.{stops}
 use Rattle.line_engine.specs.Tracks.{TellsDone}
 use Rattle.line_engine.specs.declared.track.Track.{Track}

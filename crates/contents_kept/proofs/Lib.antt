@@ -1,4 +1,0 @@
-pub mod There
-pub mod Pieces
-pub mod Hands
-pub mod Whole

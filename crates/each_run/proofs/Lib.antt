@@ -1,9 +1,0 @@
-pub mod Rows
-pub mod Frames
-pub mod Ids
-pub mod Small
-pub mod Happening
-pub mod Hearing
-pub mod Moving
-pub mod Going
-pub mod Alone

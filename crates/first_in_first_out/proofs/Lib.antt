@@ -1,4 +1,0 @@
-pub mod Queue
-pub mod Moves
-pub mod Orders
-pub mod Reaching

@@ -1,4 +1,0 @@
-pub mod Lengths
-pub mod Opens
-pub mod SubsFramed
-pub mod Framed

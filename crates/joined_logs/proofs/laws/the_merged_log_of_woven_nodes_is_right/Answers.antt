@@ -1,6 +1,0 @@
-use Rattle.running_line.specs.Reading.{Behind}
-use Rattle.joined_logs.proofs.Logging.{log_right}
-use Rattle.joined_logs.proofs.laws.the_merged_log_of_woven_nodes_is_right.Goals as goal
-
-pub returns : goal.returns
-returns c = log_right c.the_relation_goes_on_behind_the_reading.ensures.steps (c.the_relation_goes_on_behind_the_reading.ensures.new Behind) c.the_merged_log_of_a_run_behind_the_reading_is_right.ensures

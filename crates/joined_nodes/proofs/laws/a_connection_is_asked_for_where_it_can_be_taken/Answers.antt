@@ -1,5 +1,0 @@
-use Rattle.joined_nodes.proofs.Asking.{asks_where_it_may}
-use Rattle.joined_nodes.proofs.laws.a_connection_is_asked_for_where_it_can_be_taken.Goals as goal
-
-pub returns : goal.returns
-returns c = asks_where_it_may

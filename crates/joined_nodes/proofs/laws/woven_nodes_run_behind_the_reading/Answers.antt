@@ -1,9 +1,0 @@
-use Rattle.running_line.specs.Reading.{Behind}
-use Rattle.joined_nodes.proofs.Weaving.{nodes_run, nodes_stand}
-use Rattle.joined_nodes.proofs.laws.woven_nodes_run_behind_the_reading.Goals as goal
-
-pub returns-clause-runs : goal.returns-clause-runs
-returns-clause-runs c = nodes_run c.the_relation_goes_on_behind_the_reading.ensures.steps (c.the_relation_goes_on_behind_the_reading.ensures.new Behind)
-
-pub returns-clause-stand : goal.returns-clause-stand
-returns-clause-stand c = nodes_stand c.the_relation_goes_on_behind_the_reading.ensures.steps (c.the_relation_goes_on_behind_the_reading.ensures.new Behind) c.one_standing_in_the_relation.ensures

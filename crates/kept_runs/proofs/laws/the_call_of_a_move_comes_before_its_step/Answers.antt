@@ -1,5 +1,0 @@
-use Rattle.kept_runs.proofs.Calling.{calls_first}
-use Rattle.kept_runs.proofs.laws.the_call_of_a_move_comes_before_its_step.Goals as goal
-
-pub returns : goal.returns
-returns c = calls_first

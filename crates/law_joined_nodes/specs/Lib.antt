@@ -1,0 +1,9 @@
+pub mod Does
+pub mod Ways
+pub mod Joined
+pub mod Woven
+pub mod Bytes
+pub mod Laws
+pub mod Pipes
+pub mod Poured
+pub mod Logged

@@ -1,0 +1,16 @@
+pub mod Lengths
+pub mod Opens
+pub mod SubsFramed
+pub mod Framed
+pub mod Fronts
+pub mod Hearing
+pub mod Spoiling
+pub mod SayingRows
+pub mod SayingWhat
+pub mod SayingHalves
+pub mod SayingSessions
+pub mod SayingWords
+pub mod Saying
+pub mod Sayable
+pub mod Fitting
+pub mod Eventing

@@ -1,0 +1,11 @@
+pub mod LedgerMarks
+pub mod LedgerTurn
+pub mod LedgerGaps
+pub mod LedgerLanes
+pub mod LedgerRuns
+pub mod LedgerExample
+pub mod LineTexts
+pub mod LineSays
+pub mod StepRight
+pub mod LogRight
+pub mod LogExample

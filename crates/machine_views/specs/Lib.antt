@@ -1,4 +1,0 @@
-pub mod Numbers
-pub mod Seen
-pub mod Acts
-pub mod Records

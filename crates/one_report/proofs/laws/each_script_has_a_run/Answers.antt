@@ -1,5 +1,0 @@
-use Rattle.one_report.proofs.Lines.{each_run}
-use Rattle.one_report.proofs.laws.each_script_has_a_run.Goals as goal
-
-pub returns : goal.returns
-returns c = each_run

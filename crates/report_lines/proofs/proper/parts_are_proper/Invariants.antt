@@ -1,7 +1,0 @@
-use Rattle.std.proofs.Common.{All, take}
-use Rattle.report_lines.proofs.ProperOn.{IsProperPart}
-use Rattle.report_lines.proofs.proper.parts_are_proper.Given as goal
-
--- those that were gone over are proper
-abbrev pub invariant-loop-part : goal.invariant-loop-part
-invariant-loop-part l = All IsProperPart (take l.part-index l.parts)

@@ -1,5 +1,0 @@
-pub mod LineTexts
-pub mod LineSays
-pub mod StepRight
-pub mod LogRight
-pub mod LogExample

@@ -1,6 +1,0 @@
-use Rattle.running_line.specs.Reading.{Behind}
-use Rattle.running_logs.proofs.LogRight.{log_is_right}
-use Rattle.running_logs.proofs.laws.the_merged_log_of_a_run_behind_the_reading_is_right.Goals as goal
-
-pub returns : goal.returns
-returns c = log_is_right Behind c.the_ledger_follows_each_run_behind_the_reading.ensures.follows c.the_ledger_follows_each_run_behind_the_reading.ensures.stands

@@ -1,3 +1,0 @@
-pub mod Merged
-pub mod Right
-pub mod Example

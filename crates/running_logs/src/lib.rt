@@ -1,7 +1,0 @@
-//! What running machines log, merged in the order of their steps, is a log that nothing is against.
-//! There is no code here: each law is the contract of a function without a body of its own.
-//!
-//! For a reader: specs/Merged, the log of a run, and specs/Right.
-#![tactic(auto)]
-
-pub mod laws;

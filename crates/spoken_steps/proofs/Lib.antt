@@ -1,4 +1,0 @@
-pub mod Calm
-pub mod Halves
-pub mod Speaking
-pub mod Steps

@@ -1,4 +1,0 @@
-pub mod Announced
-pub mod Undisturbed
-pub mod Twelve
-pub mod Example

@@ -1,9 +1,0 @@
-//! Twelve link steps: from a state that is announced for a gap and a board, an undisturbed
-//! handover ends within twelve link steps of that gap, and before the end one of them can be done.
-//! There is no code here: the law is the contract of a function without a body.
-//!
-//! For a reader of what is said: specs/Announced, Undisturbed, Twelve. For a reader of how it is
-//! shown: README.md.
-#![tactic(auto)]
-
-pub mod laws;

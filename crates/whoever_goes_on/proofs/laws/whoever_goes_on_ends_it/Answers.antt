@@ -1,5 +1,0 @@
-use Rattle.whoever_goes_on.proofs.Walking.{whoever_ends}
-use Rattle.whoever_goes_on.proofs.laws.whoever_goes_on_ends_it.Goals as goal
-
-pub returns : goal.returns
-returns c = whoever_ends c.an_undisturbed_handover_ends_within_twelve_link_steps.ensures
