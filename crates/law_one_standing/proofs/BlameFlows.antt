@@ -35,7 +35,7 @@ use Rattle.law_one_standing.specs.Mirrors.{scene_at}
 use Rattle.law_one_standing.specs.Stands.{Stands}
 use Rattle.law_one_standing.proofs.Behind.{fit_machine}
 use Rattle.law_one_standing.proofs.BlameLinks.{AreClear, Clear, are_clear_fix, are_clear_ready, are_clear_set, clear_arrives, clear_over, clear_ready, none_free}
-use Rattle.law_one_standing.proofs.BlameReady.{is_ready}
+use Rattle.step_rules.proofs.BlameReady.{is_ready}
 use Rattle.law_one_standing.proofs.BlameSteps.{AreClearIn, AreMildAt, IsShut, acts_fit, entries_of, entries_ready, exits_of, exits_ready, free_of, frees_by, frees_there, heard_good, heard_ready, is_shut, others_stay, ready_of, spoken_mild, step_clear}
 use Rattle.law_one_standing.proofs.BlameWords.{AreSpoken, carries_oldest, clear_waits, words_fit, words_spoken}
 use Rattle.law_one_standing.proofs.Carrying.{SaysAlone}

@@ -29,7 +29,7 @@ use Rattle.line_step.specs.World.{link_at}
 use Rattle.law_one_standing.specs.Carried.{Carries, Trace, carries_over, carries_spoiled, carries_whole}
 use Rattle.law_one_standing.specs.Stands.{Stands}
 use Rattle.law_one_standing.proofs.BlameLinks.{AreClear, Clear, after_more, clear_over, clear_spoiled, clear_whole, ready_behind}
-use Rattle.law_one_standing.proofs.BlameReady.{is_ready, is_ready_state, ready_after}
+use Rattle.step_rules.proofs.BlameReady.{is_ready, is_ready_state, ready_after}
 use Rattle.law_one_standing.proofs.BlameSteps.{AreClearIn, entries_of, exits_of, free_of, ready_of}
 use Rattle.law_one_standing.proofs.BlameWords.{never_spoiled, same_said}
 use Rattle.law_one_standing.proofs.Carrying.{SaysAlone}

@@ -23,7 +23,7 @@ use Rattle.law_one_standing.specs.Carried.{IsFitMachine}
 use Rattle.law_one_standing.specs.Links.{AreWholeLinks}
 use Rattle.law_one_standing.proofs.Behind.{fit_machine}
 use Rattle.law_one_standing.proofs.BlameLinks.{AreClear, IsClear, are_clear_begin, are_clear_by, clear_none, clear_off, clear_ready, none_free}
-use Rattle.law_one_standing.proofs.BlameReady.{is_ready}
+use Rattle.step_rules.proofs.BlameReady.{is_ready}
 use Rattle.law_one_standing.proofs.BlameSteps.{AreClearIn, IsFree, NewBytes, calls, entries_of, entries_ready, exits_of, exits_ready, is_bytes, new_bytes, quiet_fit, quiet_mild, ready_of, step_clear, still_ready}
 use Rattle.law_one_standing.proofs.Carrying.{SaysAlone}
 use Rattle.law_one_standing.proofs.FactsBlame.{at_none, no_leave}

@@ -53,7 +53,7 @@ use Rattle.law_one_standing.proofs.BlameFree.{freed}
 use Rattle.law_one_standing.proofs.BlameJoins.{connects_clear, same_entry, same_exit}
 use Rattle.law_one_standing.proofs.LineMoves.{less_one}
 use Rattle.law_one_standing.proofs.BlameLinks.{AreClear, IsClear, are_clear_by, are_clear_map, are_clear_ready, are_clear_with, clear_cut, clear_limit, clear_no_link, clear_nulled_down, clear_nulled_up, none_free}
-use Rattle.law_one_standing.proofs.BlameReady.{is_ready, is_ready_state}
+use Rattle.step_rules.proofs.BlameReady.{is_ready, is_ready_state}
 use Rattle.law_one_standing.proofs.BlameSteps.{AreClearIn, AreMildAt, IsFree, NewBytes, both_ready, calls, entries_of, exits_of, frees_by, frees_there, is_bytes, new_bytes, quiet_fit, quiet_mild, ready_of, step_clear}
 use Rattle.law_one_standing.proofs.BlameTold.{AllBlames, acts_blame, blame_told, both_blame, no_acts_blame, remarks_blame}
 use Rattle.law_one_standing.proofs.Carrying.{SaysAlone}

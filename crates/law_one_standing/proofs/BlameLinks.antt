@@ -32,7 +32,7 @@ use Rattle.line_step.proofs.Numbers.{same_or_not}
 use Rattle.line_step.proofs.LinkRule.{link_keeps}
 use Rattle.law_one_standing.specs.Links.{IsWholeLink}
 use Rattle.law_one_standing.proofs.Carrying.{SaysAlone}
-use Rattle.law_one_standing.proofs.BlameReady.{ready_after}
+use Rattle.step_rules.proofs.BlameReady.{ready_after}
 use Rattle.law_one_standing.proofs.FactsBlame.{AreBodiesFrom, AreFrom, Leave, are_mild, is_from, is_mild}
 use Rattle.law_one_standing.proofs.WholeLinks.{whole_act, AreWhole}
 

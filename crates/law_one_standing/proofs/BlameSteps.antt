@@ -42,7 +42,7 @@ use Rattle.line_step.proofs.Numbers.{machine_within, same_or_not}
 use Rattle.law_one_standing.specs.Carried.{IsFitMachine}
 use Rattle.law_one_standing.specs.Links.{AreWholeLinks, IsWholeLink}
 use Rattle.law_one_standing.proofs.BlameLinks.{AreClear, acts_clear, none_free}
-use Rattle.law_one_standing.proofs.BlameReady.{MayCall, is_ready, ready_words, step_hears_ready, step_stays}
+use Rattle.step_rules.proofs.BlameReady.{MayCall, is_ready, ready_words, step_hears_ready, step_stays}
 use Rattle.law_one_standing.proofs.BlameWords.{AreSpoken, spoken_none, spoken_said, spoken_wrong}
 use Rattle.law_one_standing.proofs.Carrying.{SaysAlone}
 use Rattle.law_one_standing.proofs.Counting.{is_wrong_first, step_hears_all, across}

@@ -26,7 +26,7 @@ use Rattle.law_one_standing.specs.Carried.{Carries, carries_over, carries_spoile
 use Rattle.law_one_standing.proofs.BlameLinks.{Clear, clear_over, clear_spoiled, clear_whole, first_frame}
 use Rattle.law_one_standing.proofs.Carrying.{SaysAlone}
 use Rattle.law_one_standing.proofs.Counting.{is_wrong_first}
-use Rattle.law_one_standing.proofs.BlameReady.{ready_after, ready_words}
+use Rattle.step_rules.proofs.BlameReady.{ready_after, ready_words}
 use Rattle.law_one_standing.proofs.FactsBlame.{AreBodiesFrom, AreFrom, Front, front_of as oldest_front, said}
 use Rattle.law_one_standing.proofs.MirroringFlow.{empty_of, no_words}
 

@@ -181,7 +181,7 @@ use Rattle.node_core.specs.declared.lane.Body.{Body}
 use Rattle.node_core.specs.declared.word.Word.{Word}
 use Rattle.node_core.specs.declared.word.Word.TheVariants as words
 use Rattle.law_link_messages.specs.Heard.{bodies}
-use Rattle.law_one_standing.proofs.BlameReady.{
+use Rattle.step_rules.proofs.BlameReady.{
   hears_ready as behind_hearing,
   is_ready,
   read_stays,

@@ -8,7 +8,6 @@ pub mod BlameJoins
 pub mod Beside
 pub mod BlameLines
 pub mod BlameLinks
-pub mod BlameReady
 pub mod BlameSteps
 pub mod BlameTold
 pub mod BlameWords
@@ -63,7 +62,6 @@ pub mod RestMore
 pub mod RestNone
 pub mod RestReal
 pub mod RestScene
-pub mod RestStep
 pub mod Signalled
 pub mod SpoilingLine
 pub mod SpoilingWaits

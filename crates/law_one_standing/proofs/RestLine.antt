@@ -20,7 +20,7 @@ use Rattle.line_step.proofs.Changing.{step_changes}
 use Rattle.line_step.proofs.Numbers.{machine_set_own, same_or_not}
 use Rattle.law_one_standing.specs.Carried.{Trace}
 use Rattle.law_one_standing.specs.Stands.{IsAtRest}
-use Rattle.law_one_standing.proofs.RestStep.{IsNoOpening, Rests, step_rests}
+use Rattle.step_rules.proofs.RestStep.{IsNoOpening, Rests, step_rests}
 
 -- ---- inputs that make no connection
 

@@ -42,7 +42,7 @@ use Rattle.line_step.proofs.OnFloor.{SameBoards, quiet-acts}
 use Rattle.law_one_standing.specs.Carried.{IsFitMachine, Trace}
 use Rattle.law_one_standing.proofs.ApartFloor.{counted}
 use Rattle.law_one_standing.proofs.RestLine.{IsNoCall, event_opens}
-use Rattle.law_one_standing.proofs.RestStep.{Rests, step_rests}
+use Rattle.step_rules.proofs.RestStep.{Rests, step_rests}
 use Rattle.law_running_line.specs.Reading.{Reading}
 use Rattle.law_running_line.specs.Running.{Running}
 use Rattle.law_running_line.specs.Stands.{IsAtRest, Stands, line_of, node_in}

@@ -60,7 +60,7 @@ use Rattle.node_core.proofs.Sound.{word_offers}
 use Rattle.law_sentences.specs.Announced.{is_of_places}
 use Rattle.law_sentences.proofs.Folds.{offered_from, ready_from}
 use Rattle.law_sentences.proofs.Orderly.{AreSilent, Orderly, ends, goes_on, is_opened, is_refused, is_start, plain_orderly, is_broken, is_start_text}
-use Rattle.law_sentences.proofs.Linked.{Linked, is_ready_within, is_ready_without, pass_linked, word_linked}
+use Rattle.step_rules.proofs.Linked.{Linked, is_ready_within, is_ready_without, pass_linked, word_linked}
 use Rattle.law_sentences.proofs.Halves.{AreEnd, RowTells, Tells, at_intake_tells, half_closed_tells, intake_tells, outlet_tells, same_outlet, tells_behind, tells_both, tells_silent, tells_still}
 
 -- ---- sessions

@@ -4,7 +4,6 @@ mod Links
 pub mod Folds
 pub mod Orderly
 pub mod Halves
-pub mod Linked
 pub mod Hearing
 pub mod Telling
 pub mod WrongWords

@@ -36,7 +36,7 @@ use Rattle.law_sentences.proofs.Folds.{exit_append, offered_append, offered_from
 use Rattle.law_sentences.proofs.Happenings.{Told, opens_as_announced, told_apart, told_both}
 use Rattle.law_sentences.proofs.Orderly.{AreSilent, Orderly, orderly_both, plain_orderly, silent_both, silent_none}
 use Rattle.law_sentences.proofs.Halves.{Tells}
-use Rattle.law_sentences.proofs.Linked.{Linked, step_linked}
+use Rattle.step_rules.proofs.Linked.{Linked, step_linked}
 use Rattle.law_sentences.proofs.WrongWords.{good_event}
 use Rattle.law_sentences.proofs.Telling.{step_tells}
 use Rattle.law_sentences.proofs.OpeningSteps.{acts_offered, acts_ready, acts_told, no_acts_none, other_acts, remarks_none}

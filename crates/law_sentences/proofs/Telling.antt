@@ -35,7 +35,7 @@ use Rattle.node_core.specs.Supervising.{Supervision, Supervise, Ask, Answer, sup
 use Rattle.node_core.proofs.Sound.{read_exit, read_offers}
 use Rattle.law_sentences.proofs.Orderly.{AreSilent, tells_offered, tells_orderly, tells_ready}
 use Rattle.law_sentences.proofs.Halves.{AreEnd, Tells, at_intake_tells, at_outlet_tells, offer_tells, same_outlet, tells_behind, tells_both, tells_silent, tells_still}
-use Rattle.law_sentences.proofs.Linked.{Linked, all_read_linked}
+use Rattle.step_rules.proofs.Linked.{Linked, all_read_linked}
 use Rattle.law_sentences.proofs.Hearing.{CanHear, IsGood, ended_tells, heard_tell, if_tells, session_tells}
 
 -- ---- sensor events

@@ -12,3 +12,6 @@ pub mod Calm
 pub mod Halves
 pub mod Speaking
 pub mod SpokenSteps
+pub mod BlameReady
+pub mod RestStep
+pub mod Linked
