@@ -47,9 +47,6 @@ flow_map then (flow_over off none) = flow_over off none
 none_flows : {waiting bytes : List ℕ} → waiting ≡ [] → bytes ≡ [] → Flows waiting bytes []
 none_flows {bytes = bytes} empty none = subst (λ (w : List ℕ). Flows w bytes []) (sym empty) (subst (λ (b : List ℕ). Flows [] b []) (sym none) nothing_flows)
 
-pub flow_none : {Q : List Message → Type 0} {stands : Bool} {waiting bytes : List ℕ} → Q [] → waiting ≡ [] → bytes ≡ [] → Flow Q stands waiting bytes
-flow_none so empty none = flow_whole [] none_fit so (none_flows empty none)
-
 -- ---- one message more
 
 abbrev pub Adds : (List Message → Type 0) → Message → Type 0

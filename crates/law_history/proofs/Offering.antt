@@ -261,9 +261,6 @@ outlet_walks desk body input (Some row) plain is =
       hands = quiet.hands;
     }
 
-pub at_outlet_walks : (desk : Desk) (input : OutInput) (body : Body) → IsPlain input → Walks body (outlet_row_did desk body (outlet_row body.outlet input))
-at_outlet_walks desk input body plain = outlet_walks desk body input (outlet_row body.outlet input) plain refl
-
 -- a start
 pub start_offers : {s : OutState} {named : ℕ} {row : OutRow} (desk : Desk) (opening : Bool) (kept : List Record) {o : Offering} → IsOutletRow s (out_input.Start named (opening_board opening kept)) row → AsOffered s.phase s.offered s.touched kept o
     → AsOffered row.after.phase row.after.offered row.after.touched (given_back row.act.back (behind_opening opening kept)) (offers_acts (out_told desk (behind_opening opening kept) row.act) o)
@@ -369,6 +366,3 @@ intake_walks desk body input None plain is = walks_still body
 intake_walks desk body input (Some row) plain is =
     let shape = in_shape (in_row_is body.intake input row is) plain in
     record { each = λ first ids o h. in_holds desk body row shape h; hands = in_hands desk (held_in body.intake.phase) (held_in row.after.phase) row.act shape }
-
-pub at_intake_walks : (desk : Desk) (input : InInput) (body : Body) → IsNoStart input → Walks body (intake_row_did desk body (intake_row body.intake input))
-at_intake_walks desk input body plain = intake_walks desk body input (intake_row body.intake input) plain refl

@@ -336,14 +336,6 @@ record Closed (side : Side) (s u : RunState) : Type 0 where
   beside : (at : Side) → is_same_way (way_of at) (way_of side) ≡ false → waits_at at u ≡ waits_at at s
   held : u.held.finding ≡ s.held.finding
 
-not_own : (side : Side) {X : Type 0} → is_same_way (way_of side) (way_of side) ≡ false → X
-not_own Entry is = absurd (true≢false is)
-not_own Exit is = absurd (true≢false is)
-
-goes_at : {s t : RunState} {taken : Option Taken} (side : Side) → Goes s t taken → waits_at side t ≡ waits_at side s ++ texts_in side taken
-goes_at Entry goes = goes.up
-goes_at Exit goes = goes.down
-
 -- of each way: it is closed, or another is
 close_ways : {rules : Rules} {moment : ℤ} {s u t : RunState} {taken : Option Taken} (at side : Side) → Closed side s u → Notices side s taken → Goes u t taken → Ways rules moment at s t taken (Closes (way_of side) ∷ [])
 close_ways {taken = taken} Entry Entry closed seen goes = way_closes seen (goes.up ∙ ap (λ (text : List ℕ). text ++ texts_in Entry taken) closed.own)

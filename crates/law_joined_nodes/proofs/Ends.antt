@@ -199,12 +199,6 @@ pub data Far (machine place : ℕ) (side : Side) (given : List Given) (taken : O
       → q.took (beyond machine side) (other side) n
       ≡ p.took (beyond machine side) (other side) n) → Far machine place side given taken p q
 
-sides_apart : (side at : Side) → (side ≡ at) ⊎ (side ≢ at)
-sides_apart Entry Entry = inl refl
-sides_apart Exit Exit = inl refl
-sides_apart Entry Exit = inr (λ is. cc)
-sides_apart Exit Entry = inr (λ is. cc)
-
 -- a call at the other side, or none at all
 calm_quiet : {given : List Given} {taken : Option Taken} (side : Side) → IsCalm given
     → IsQuietAt side given taken

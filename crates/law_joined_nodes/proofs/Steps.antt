@@ -35,7 +35,7 @@ use Rattle.node_run.specs.declared.rules.Rules.{Rules}
 use Rattle.law_running_line.specs.Reading.{Reading}
 use Rattle.law_running_line.specs.Running.{Running, with_node, with_reading}
 use Rattle.law_running_line.specs.Turns.{IsAt, answered, did, met}
-use Rattle.law_running_line.specs.Wire.{Awaits, Coming, Has, Hold, Left, Wire, asked_for, bytes_of, coming_to, end_at, end_beyond, given, has, read_at, said, with_coming_to, with_end}
+use Rattle.law_running_line.specs.Wire.{Awaits, Coming, Has, Hold, Left, Wire, asked_for, bytes_of, coming_to, end_at, end_beyond, given, has, read_at, said, with_end}
 use Rattle.law_running_line.proofs.Waiting.{wire_of}
 use Rattle.law_running_line.proofs.WiresParts.{has_awaits, left_awaits, left_has}
 use Rattle.law_joined_nodes.specs.Does.{Does, Holds, IsBeside, Taken, does_accept, does_connect, does_hear, does_step}
@@ -307,16 +307,6 @@ opens_end Exit w = refl
 opens_beyond : (side : Side) (w : Wire) → end_beyond side (with_end side Has w) ≡ end_beyond side w
 opens_beyond Entry w = refl
 opens_beyond Exit w = refl
-
-coming_end : (side : Side) (coming : List Coming) (w : Wire)
-    → end_at side (with_coming_to side coming w) ≡ end_at side w
-coming_end Entry coming w = refl
-coming_end Exit coming w = refl
-
-coming_beyond : (side : Side) (coming : List Coming) (w : Wire)
-    → end_beyond side (with_coming_to side coming w) ≡ end_beyond side w
-coming_beyond Entry coming w = refl
-coming_beyond Exit coming w = refl
 
 refused_end : (c : List Coming) (w : Wire) → end_at Exit (answered c (with_end Exit Left w)) ≡ Left
 refused_end c w = by w.below where

@@ -4,7 +4,6 @@ use Rattle.line_base.specs.declared.states.Side.{Side}
 use Rattle.line_base.specs.declared.states.Side.TheVariants.{Entry, Exit}
 use Rattle.board_record.specs.declared.sensed.Sensed.{Sensed}
 use Rattle.hermes_horizontal.specs.Canonical.{canonical}
-use Rattle.hermes_horizontal.specs.declared.message.Message.{Message}
 use Rattle.node_core.specs.Node.{NodeState}
 use Rattle.node_core.specs.declared.act.Act.{Act}
 use Rattle.node_core.specs.declared.act.Act.TheVariants as acts
@@ -244,10 +243,6 @@ did_plain machine place (act ∷ others) s none =
     ap (did true machine place others)
     (act_plain machine place act s none.0) ∙ did_plain machine place others
     (act_did false machine place act s) none.1
-
-first_text : (message : Message) (rest : List Act)
-    → text_of_first (acts.Sends Exit message ∷ rest) ≡ canonical message
-first_text message rest = refl
 
 answered_starts : (j : ℕ) (side : Side) (place count : ℕ) (text : List ℕ) (c : List Coming)
     (ws : List Wire) (two : Running) → bytes_of c ≡ text

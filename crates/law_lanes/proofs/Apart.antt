@@ -158,9 +158,6 @@ lies_there s id lane some lies = by (whether lane s some) where
         ap (λ (t : LineState). count id (boards_of t)) empty,
       ) in never)
 
-more_or_none : (a b c : ℕ) → 1 ≤ a → a + c ≤ b + 0 → 1 ≤ b
-more_or_none a b c some most = omega (arith, some, most)
-
 lay_before : (id lane : ℕ) (before next : Lanes) (done : List LaneHappening)
     → GoesOn lane before next done → came id (told_for lane done) ≡ 0 → Lies next id lane
     → Lies before id lane

@@ -106,9 +106,6 @@ track-alike lane s t alike = get_or-alike s.tracks t.tracks (lane - 1) (empty_tr
 
 -- ---- what the lanes share
 
-beside_node : NodeState → NodeState → NodeState
-beside_node node other = record other { maker = node.maker; supervised = node.supervised }
-
 node-beside : (a b c d : NodeState) → AreAlike a b → AreAlike c d → AreAlike (record c { maker = a.maker; supervised = a.supervised }) (record d { maker = b.maker; supervised = b.supervised })
 node-beside a b c d own other = record {
   spent = other.spent;
@@ -164,9 +161,6 @@ counts-alike lines [] [] all = tt
 counts-alike lines [] (t ∷ ts) all = absurd all
 counts-alike lines (s ∷ ss) [] all = absurd all
 counts-alike lines (s ∷ ss) (t ∷ ts) all = (count-alike lines s t all.0, counts-alike lines ss ts all.1)
-
-counted-alike : (lines : ℕ) (s t : Lanes) → LanesAlike s t → LanesAlike (counted lines s) (counted lines t)
-counted-alike lines s t alike = record { tracks = counts-alike lines s.tracks t.tracks alike.tracks; spent = alike.spent }
 
 -- ---- reasons
 
@@ -333,9 +327,6 @@ shifts-once number machine from to id s t after after' told other alike one two 
     (record { after_is = one.after_is; told_is = one.told_is }) (record { after_is = two.after_is; told_is = two.told_is })
 
 -- ---- show
-
-nodes-tracks : List LineState → List (List NodeState)
-nodes-tracks ts = map (λ (t : LineState). t.machines) ts
 
 abbrev AreNodesAlike : List (List NodeState) → List (List NodeState) → Type 0
 AreNodesAlike [] [] = Unit {0}

@@ -8,11 +8,10 @@ use Rattle.line_report.specs.Lanes.{told_on}
 use Rattle.line_report.specs.declared.happening.Happening.TheVariants as happenings
 use Rattle.line_report.specs.declared.happening.Reason.TheVariants as reasons
 use Rattle.line_step.specs.State.{LineState, no_line, one_more, profile_of}
-use Rattle.law_lanes.specs.Lanes.{Lanes, no_lanes}
+use Rattle.law_lanes.specs.Lanes.{Lanes}
 use Rattle.law_lanes.specs.Reasons.{may_set, may_shift}
 use Rattle.law_lanes.specs.Shown.{shown_on, standings_on}
 use Rattle.law_lanes.specs.Steps.{copies, more_on}
-use Rattle.line_step.specs.Reasons.{may_do}
 
 board : Record
 board = plain_record 7 (77 ∷ 49 ∷ []) None
@@ -69,6 +68,3 @@ not_here = refl
 stand : may_set first ≡ Err reasons.MachinesStand
 unfolding board empty with_boards first second
 stand = refl
-
-none_stand : may_set no_lanes ≡ may_do
-none_stand = refl

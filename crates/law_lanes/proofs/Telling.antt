@@ -373,14 +373,6 @@ lie_on_join (h ∷ front) back one two =
     or_from (is_lie h.what) (tells_lie_on (front ++ back)) parts.0
     (lie_on_join front back parts.1 two)
 
-pub lie_on_front : (front back : List LaneHappening) → tells_lie_on (front ++ back) ≡ false
-    → (tells_lie_on front ≡ false) × (tells_lie_on back ≡ false)
-lie_on_front [] back none = (refl, none)
-lie_on_front (h ∷ front) back none =
-    let parts = or_parts (is_lie h.what) (tells_lie_on (front ++ back)) none in
-    let rest = lie_on_front front back parts.1 in
-    (or_from (is_lie h.what) (tells_lie_on front) parts.0 rest.0, rest.1)
-
 pub no_deed_lies : (told : List LaneHappening) → AreNoDeeds told → tells_lie_on told ≡ false
 no_deed_lies [] none = refl
 no_deed_lies (h ∷ told) none =

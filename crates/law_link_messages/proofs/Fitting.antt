@@ -30,7 +30,7 @@ use Rattle.node_core.specs.declared.word.Word.TheVariants.{Says, Wrong}
 use Rattle.node_core.proofs.Telling.{tells_pass}
 use Rattle.law_custody.proofs.Spoils.{nul_arrives}
 use Rattle.law_custody.specs.Bytes.{Flows, HasNul, Spoiled, texts_of}
-use Rattle.law_link_messages.specs.Fit.{AreFit, AreFitActs, AreFitWords, IsFit, IsFitAct, IsFitHeard, IsTextIf, more_fit, more_heard, more_said, none_fit, none_heard, none_said, sent_on, wrong_heard}
+use Rattle.law_link_messages.specs.Fit.{AreFit, AreFitWords, IsFit, IsFitHeard, IsTextIf, more_fit, more_heard, none_fit, none_heard, sent_on, wrong_heard}
 use Rattle.law_link_messages.specs.Heard.{AreSayable, more_sayable, none_sayable}
 use Rattle.law_link_messages.proofs.Fronts.{IsFront, front_of, no_end}
 use Rattle.law_link_messages.proofs.Hearing.{OneMeaning, means_it}
@@ -61,15 +61,6 @@ fit_behind (suc count) (message ∷ messages) (more_fit one others) = fit_behind
 pub both_fit : {a b : List Message} → AreFit a → AreFit b → AreFit (a ++ b)
 both_fit none_fit b = b
 both_fit (more_fit one others) b = more_fit one (both_fit others b)
-
-fit_sent : (side : Side) (act : Act) (others : List Act) → IsFitAct act → AreFit (sent_on side others) → AreFit (sent_on side (act ∷ others))
-fit_sent Entry (acts.Sends Entry message) others one fit = more_fit one fit
-fit_sent Exit (acts.Sends Exit message) others one fit = more_fit one fit
-fit_sent side _ others one fit = fit
-
-pub sent_are_fit : (side : Side) (said : List Act) → AreFitActs said → AreFit (sent_on side said)
-sent_are_fit side [] none_said = none_fit
-sent_are_fit side (act ∷ others) (more_said one fit) = fit_sent side act others one (sent_are_fit side others fit)
 
 -- what the supervisor is told goes out on no link
 sent_both : (side : Side) (act : Act) (told made : List Act) → sent_on side told ≡ sent_on side made

@@ -112,10 +112,6 @@ pub revoke_ahead : {afar : Afar} {above : List Record} {us : List Sensed} {ga gb
     → Good afar above us ga gb body c → GoesBy afar above us ga gb c (revoke desk body)
 revoke_ahead {body = body} desk g = revoke_when desk (revokes_now body) refl g
 
-pub revoke_goes : {afar : Afar} {above : List Record} {ga gb : Ghost} {body : Machine} {c : Scene} (desk : Desk)
-    → Good afar above [] ga gb body c → GoesBy afar above [] ga gb c (revoke desk body)
-revoke_goes desk g = revoke_ahead desk g
-
 -- ---- UNREADY and READY
 
 -- an entry that announces, or would, has read its events
@@ -155,10 +151,6 @@ unready_free : {us : List Sensed} (desk : Desk) (test : Bool) (body : Machine) �
 unready_free desk true body none r = quiet_read (none refl)
 unready_free desk false body none r = r
 
-pub unready_goes : {afar : Afar} {above : List Record} {ga gb : Ghost} {body : Machine} {c : Scene} (desk : Desk)
-    → Good afar above [] ga gb body c → GoesBy afar above [] ga gb c (unready desk body)
-unready_goes desk g = unready_ahead desk g all_free_read
-
 ready_read : {us : List Sensed} (desk : Desk) (body : Machine) → IsFreeRead us body → readies_now desk body ≡ true → events_at Entry us ≡ []
 ready_read desk body r e =
     let two = (and_parts _ _ (and_parts _ _ (and_parts _ _ e).0).0).0 in
@@ -184,10 +176,6 @@ ready_ahead {body = body} desk g r = ready_when desk (readies_now desk body) ref
 ready_free : {us : List Sensed} (desk : Desk) (test : Bool) (body : Machine) → (test ≡ true → events_at Entry us ≡ []) → IsFreeRead us body → IsFreeRead us (ready_by desk test body).body
 ready_free desk true body none r = quiet_read (none refl)
 ready_free desk false body none r = r
-
-pub ready_goes : {afar : Afar} {above : List Record} {ga gb : Ghost} {body : Machine} {c : Scene} (desk : Desk)
-    → Good afar above [] ga gb body c → GoesBy afar above [] ga gb c (ready desk body)
-ready_goes desk g = ready_ahead desk g all_free_read
 
 -- ---- OFFER
 
@@ -246,10 +234,6 @@ offer_when {body = body} desk true e g =
 pub offer_ahead : {afar : Afar} {above : List Record} {us : List Sensed} {ga gb : Ghost} {body : Machine} {c : Scene} (desk : Desk)
     → Good afar above us ga gb body c → GoesBy afar above us ga gb c (offer desk body)
 offer_ahead {body = body} desk g = offer_when desk (offers_now body) refl g
-
-pub offer_goes : {afar : Afar} {above : List Record} {ga gb : Ghost} {body : Machine} {c : Scene} (desk : Desk)
-    → Good afar above [] ga gb body c → GoesBy afar above [] ga gb c (offer desk body)
-offer_goes desk g = offer_ahead desk g
 
 -- ---- START
 

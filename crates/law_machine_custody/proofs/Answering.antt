@@ -1,21 +1,16 @@
 -- A LINK IS CONNECTED A SECOND TIME, at the machine above it: the answer flows to the new connection, and the first goes on.
 use Rattle.std.proofs.Common.{Bool, List, None, Option, Some, [], ap, append-nil, false, refl, slice_get, subst, sym, true, ◌++◌, ◌∙◌, ◌∷◌, ◌≡◌}
-use Rattle.line_base.specs.declared.states.Role.TheVariants.{Upstream}
 use Rattle.line_base.specs.declared.states.SensorEvent.{SensorEvent}
 use Rattle.line_base.specs.declared.states.Side.{Side}
 use Rattle.line_base.specs.declared.states.Side.TheVariants.{Entry, Exit}
 use Rattle.board_record.specs.declared.record.Record.{Record}
 use Rattle.board_record.specs.declared.sensed.Sensed.{Sensed}
 use Rattle.hermes_horizontal.specs.declared.message.Horizontal.{Horizontal}
-use Rattle.session_core.specs.Acts.{one as only}
-use Rattle.session_core.specs.End.{SessionEnd, is_connected_state}
+use Rattle.session_core.specs.End.{SessionEnd}
 use Rattle.session_core.specs.Input.{second}
 use Rattle.session_core.specs.Row.{SessionRow, session_row}
 use Rattle.session_core.specs.Table.{IsSessionRow, refuses_second}
-use Rattle.session_core.specs.declared.actions.Action.TheVariants.{Tell}
 use Rattle.session_core.specs.declared.actions.Tell.TheVariants.{AlreadyConnected}
-use Rattle.session_core.specs.declared.state.SessionState.{SessionState}
-use Rattle.session_core.specs.declared.state.SessionState.TheVariants.{Handshake, NotConnected, Standing}
 use Rattle.session_core.proofs.Rows.{row_is as session_row_is}
 use Rattle.handover_out.specs.Row.{outlet_row}
 use Rattle.handover_out.specs.declared.input.OutInput.{OutInput}
@@ -25,7 +20,7 @@ use Rattle.handover_in.specs.declared.input.InInput.{InInput}
 use Rattle.handover_in.specs.declared.input.InInput.TheVariants as in_input
 use Rattle.node_core.specs.Announces.{announces, offer, offer_by, offers_now, readies_now, ready, ready_by, revoke, revoke_by, revokes_now, start_by, starts_now, unready, unready_by, unreadies_now}
 use Rattle.node_core.specs.Desk.{Desk}
-use Rattle.node_core.specs.Done.{Done, done}
+use Rattle.node_core.specs.Done.{Done}
 use Rattle.node_core.specs.Event.{Second, event_did}
 use Rattle.node_core.specs.Halves.{at_intake, at_outlet}
 use Rattle.node_core.specs.Reads.{all_read, saw}
@@ -33,7 +28,7 @@ use Rattle.node_core.specs.Session.{actions_did, session_did}
 use Rattle.node_core.specs.Sides.{with_session}
 use Rattle.node_core.specs.Step.{machine_step, plain_step}
 use Rattle.node_core.specs.Supervising.{watch_of, with_tells}
-use Rattle.node_core.specs.Told.{sends, tells}
+use Rattle.node_core.specs.Told.{tells}
 use Rattle.node_core.specs.declared.act.Act.{Act}
 use Rattle.node_core.specs.declared.act.Act.TheVariants as acts
 use Rattle.node_core.specs.declared.lane.Body.{Body as Machine}
@@ -43,18 +38,15 @@ use Rattle.law_custody.specs.Pair.{Ghost}
 use Rattle.law_custody.specs.Words.{down_words}
 use Rattle.law_custody.proofs.Lists.{down_words-append}
 use Rattle.law_machine_custody.specs.Scene.{Scene, all_met, met}
-use Rattle.law_machine_custody.specs.Good.{Afar, Goes, GoesBy, Good}
+use Rattle.law_machine_custody.specs.Good.{Afar, Goes, Good}
 use Rattle.law_machine_custody.specs.Ahead.{GoesTo, IsFreeRead}
 use Rattle.law_machine_custody.specs.ByHand.{body_read, scene_read}
 use Rattle.law_machine_custody.specs.Joined.{GoesLeft, GoesSecond, all_met_left, all_met_second, answered, is_answer, met_left, met_second, unanswered}
 use Rattle.law_machine_custody.proofs.Announcing.{announces_ahead}
-use Rattle.law_machine_custody.proofs.Clock.{exit_says}
 use Rattle.law_machine_custody.proofs.Far.{all_intake, all_outlet}
 use Rattle.law_machine_custody.proofs.Goes.{goes_both, goes_not, goes_since}
 use Rattle.law_machine_custody.proofs.Quiet.{AllActs, IsPlain, acts_more, acts_none, all_append, intake_all, intake_says, outlet_all, outlet_says, read_all}
-use Rattle.law_machine_custody.proofs.Reading.{all_read_good}
 use Rattle.law_machine_custody.proofs.FrontRead.{Reads, reads_all}
-use Rattle.law_machine_custody.proofs.Step.{step_by}
 
 -- ---- nothing else in the step is an answer
 
@@ -136,19 +128,6 @@ announces_plain desk body =
 
 -- ---- the answer
 
-open_row : (s : SessionEnd) (state : SessionState) → s.state ≡ state → is_connected_state state ≡ true → s.role ≡ Upstream → session_row s second ≡ Some (record { after = s; actions = only (Tell AlreadyConnected) })
-open_row s NotConnected is on role = cc
-open_row s Handshake is on role = rw (role, is) refl
-open_row s Standing is on role = rw (role, is) refl
-
-second_row_is : (s : SessionEnd) → is_connected_state s.state ≡ true → s.role ≡ Upstream → session_row s second ≡ Some (record { after = s; actions = only (Tell AlreadyConnected) })
-second_row_is s on role = open_row s s.state refl on role
-
--- the acts of the event alone
-pub second_did : (desk : Desk) (body : Machine) → is_connected_state body.exit.session.state ≡ true → body.exit.session.role ≡ Upstream
-    → event_did desk Second body ≡ done body (sends desk Exit (tells AlreadyConnected))
-second_did desk body on role = ap (λ (row : Option SessionRow). session_did desk Exit row body) (second_row_is body.exit.session on role)
-
 aside_words : (ds ms : List Horizontal) → down_words ms ≡ [] → down_words (ds ++ ms) ≡ down_words ds
 aside_words ds ms quiet = down_words-append ds ms ∙ ap (λ ws. down_words ds ++ ws) quiet ∙ append-nil (down_words ds)
 
@@ -185,15 +164,6 @@ second_goes : {afar : Afar} {above : List Record} {us : List Sensed} {ga gb : Gh
     → Good afar above us ga gb body c → GoesSecond afar above us ga gb c (session_did desk Exit row body)
 second_goes body c desk None is g = goes_not g
 second_goes body c desk (Some row) is g = answers_row body c desk body.exit.session row (session_row_is body.exit.session second row is) g
-
-vanishes_row : {afar : Afar} {above : List Record} {ga gb : Ghost} (body : Machine) (c : Scene) (desk : Desk) (s : SessionEnd) (row : SessionRow) → IsSessionRow s second row
-    → Good afar above [] ga gb (with_session Exit s body) c → GoesBy afar above [] ga gb c (actions_did desk Exit row.actions (with_session Exit row.after body))
-vanishes_row body c desk _ _ (refuses_second is) g = exit_says _ c (tells AlreadyConnected ∷ []) refl g
-
-vanishes_goes : {afar : Afar} {above : List Record} {ga gb : Ghost} (body : Machine) (c : Scene) (desk : Desk) (row : Option SessionRow) → session_row body.exit.session second ≡ row
-    → Good afar above [] ga gb body c → GoesBy afar above [] ga gb c (session_did desk Exit row body)
-vanishes_goes body c desk None is g = goes_not g
-vanishes_goes body c desk (Some row) is g = vanishes_row body c desk body.exit.session row (session_row_is body.exit.session second row is) g
 
 -- the scene behind the step: the reading, the event, the announcements, of which the event alone answers
 pub seconds_are : (desk : Desk) (unread : List Sensed) (body : Machine) (c : Scene)
@@ -233,13 +203,6 @@ seconds_ahead {afar = afar} {above = above} {rest = rest} {ga = ga} {gb = gb} de
 pub seconds_go : {afar : Afar} {above : List Record} {ga gb : Ghost} (desk : Desk) (unread : List Sensed) (body : Machine) (c : Scene) → Good afar above unread ga gb body c
     → GoesSecond afar above [] ga gb c (machine_step desk unread Second body)
 seconds_go desk unread body c g = (seconds_ahead desk unread body c (reads_all desk unread body c g)).goes
-
--- and where the answer is said as all else is, so that it vanishes on a link that doesn't stand
-pub seconds_vanish_go : {afar : Afar} {above : List Record} {ga gb : Ghost} (desk : Desk) (unread : List Sensed) (body : Machine) (c : Scene) → Good afar above unread ga gb body c
-    → GoesBy afar above [] ga gb c (machine_step desk unread Second body)
-seconds_vanish_go desk unread body c g =
-    let one : Machine = body_read desk unread body in
-    step_by desk unread Second body c (vanishes_goes one (scene_read desk unread body c) desk (session_row one.exit.session second) refl (all_read_good desk unread body c g))
 
 -- ---- and to a second connection that was left below, where the answer is for nobody
 

@@ -10,8 +10,6 @@ use Rattle.board_record.specs.declared.sensed.Sensed.{Sensed}
 use Rattle.hermes_horizontal.specs.declared.message.Horizontal.TheVariants as message
 use Rattle.smema_bridge.specs.Levels.{BridgeLevels}
 use Rattle.smema_bridge.specs.Segment.{becomes_available}
-use Rattle.smema_bridge.specs.Signals.{bridge_edges, signals_of}
-use Rattle.smema_bridge.specs.declared.edges.BridgeEdges.{BridgeEdges}
 use Rattle.smema_bridge.specs.declared.line.SegmentLine.{SegmentLine}
 use Rattle.smema_bridge.specs.declared.line.SegmentLine.TheVariants.{Available, Failed, Ready}
 use Rattle.forecast_query.specs.Info.{forecast_of}
@@ -21,10 +19,7 @@ use Rattle.node_core.specs.Bridge.{failed_front, fails, sets_level, tells_level}
 use Rattle.node_core.specs.Desk.{Desk}
 use Rattle.node_core.specs.Halves.{front_id}
 use Rattle.node_core.specs.Information.{asks_for, forecasts, forecasts_front}
-use Rattle.node_core.specs.Signals.{edges_told, moves_out, quality_taken, signal_told, signalled}
 use Rattle.node_core.specs.Supervising.{Answer, Ask, Supervise, Supervision, supervises}
-use Rattle.node_core.specs.declared.act.Act.{Act}
-use Rattle.node_core.specs.declared.act.Signal.{Signal}
 use Rattle.node_core.specs.declared.act.Signal.TheVariants as signals
 use Rattle.node_core.specs.declared.lane.Body.{Body as Machine}
 use Rattle.law_custody.specs.Pair.{Ghost}
@@ -105,23 +100,3 @@ levels_go {body = body} desk line on g =
     let one : Machine = (tells_level line on body).body in
     goes_then (tells_level line on body) (λ (x : Machine). fails (failed_front desk.bridge line on x) x) (tells_go line on g)
     (λ a b next. fails_go (failed_front desk.bridge line on one) (marked_untouched desk.bridge line on one) next)
-
--- ---- a bridge's own signals are no business of links and floor
-
-told_met : (signal : Signal) (edge : Option Bool) (others : List Act) (c : Scene) → all_met (signal_told signal edge ++ others) c ≡ all_met others c
-told_met signal None others c = refl
-told_met signal (Some on) others c = refl
-
-last_met : (signal : Signal) (edge : Option Bool) (c : Scene) → all_met (signal_told signal edge) c ≡ c
-last_met signal None c = refl
-last_met signal (Some on) c = refl
-
-edges_met : (edges : BridgeEdges) (c : Scene) → all_met (edges_told edges) c ≡ c
-edges_met edges c =
-    told_met signals.EntryAvailable edges.available (signal_told signals.EntryFailed edges.failed ++ signal_told signals.ExitReady edges.ready) c
-    ∙ told_met signals.EntryFailed edges.failed (signal_told signals.ExitReady edges.ready) c
-    ∙ last_met signals.ExitReady edges.ready c
-
-pub signals_met : (bridge : Option BridgeLevels) (body : Machine) (c : Scene) → all_met (signalled bridge body) c ≡ c
-signals_met None body c = refl
-signals_met (Some before) body c = edges_met (bridge_edges before.own (signals_of (quality_taken body.intake.phase) (moves_out body))) c

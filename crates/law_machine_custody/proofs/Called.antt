@@ -30,7 +30,7 @@ use Rattle.law_custody.specs.Words.{sent}
 use Rattle.law_machine_custody.specs.Scene.{Scene, all_met, said}
 use Rattle.law_machine_custody.specs.Good.{Afar, Good}
 use Rattle.law_machine_custody.specs.ByHand.{body_read, scene_read}
-use Rattle.law_machine_custody.specs.Joined.{described_by, with_link}
+use Rattle.law_machine_custody.specs.Joined.{with_link}
 use Rattle.law_machine_custody.proofs.Connecting.{calling, connect_did, entry_unready, read_apart, read_entry, vanishes}
 use Rattle.law_machine_custody.proofs.Goes.{met_append, step_met}
 use Rattle.law_machine_custody.proofs.Quiet.{AllActs, IsQuiet, acts_more, acts_none, all_append, outlet_all, outlet_says, quiet_all, quiet_is_plain}
@@ -143,10 +143,6 @@ connect_met desk unread body c stands up down g away =
     ∙ plain_connect_met desk unread body c stands up down g away
     ∙ ap (with_link Entry stands (sent (service_of desk ∷ []) stands up) down)
     (sym (step_met desk unread Connect body c))
-
--- the message that is said is the machine's description
-pub service_is : (desk : Desk) → service_of desk ≡ message.ServiceDescription (described_by desk)
-service_is desk = refl
 
 -- what the step leaves of the link above, where the link doesn't stand
 pub record LeavesAbove (c d : Scene) : Type 0 where

@@ -20,12 +20,12 @@ use Rattle.session_core.specs.declared.actions.Tell.TheVariants.{Shutdown}
 use Rattle.session_core.specs.declared.state.SessionState.TheVariants.{Handshake, Standing}
 use Rattle.session_core.proofs.Rows.{row_is as session_row_is}
 use Rattle.node_core.specs.Boards.{wills}
-use Rattle.node_core.specs.Connect.{both_shut_down, both_tick, if_open, notices, shuts_down, ticks}
+use Rattle.node_core.specs.Connect.{both_shut_down, both_tick, if_open, shuts_down, ticks}
 use Rattle.node_core.specs.Desk.{Desk}
-use Rattle.node_core.specs.Done.{Done, behind}
-use Rattle.node_core.specs.Halves.{ended, half_closed}
+use Rattle.node_core.specs.Done.{Done}
+use Rattle.node_core.specs.Halves.{half_closed}
 use Rattle.node_core.specs.Session.{actions_did, session_did}
-use Rattle.node_core.specs.Sides.{is_open, session_at, with_session}
+use Rattle.node_core.specs.Sides.{session_at, with_session}
 use Rattle.node_core.specs.Told.{tells}
 use Rattle.node_core.specs.declared.act.Act.TheVariants as acts
 use Rattle.node_core.specs.declared.lane.Body.{Body as Machine}
@@ -33,10 +33,10 @@ use Rattle.law_custody.specs.Pair.{Ghost}
 use Rattle.law_custody.specs.Words.{down_words, events_at, up_words}
 use Rattle.law_custody.proofs.LinkEvents.{says_aside_down, says_aside_up}
 use Rattle.law_custody.proofs.Lists.{sent_down, sent_up}
-use Rattle.law_custody.proofs.Unread.{HasRead, ReadFirst, all_read, none_unread}
+use Rattle.law_custody.proofs.Unread.{HasRead, ReadFirst}
 use Rattle.law_machine_custody.specs.Scene.{Scene, all_met, link_above, link_below, shut}
 use Rattle.law_machine_custody.specs.Good.{Afar, Goes, GoesBy, Good}
-use Rattle.law_machine_custody.proofs.Closing.{MayFollow, entry_shuts_unread, exit_shuts_unread, noticed_go, told_above, told_below}
+use Rattle.law_machine_custody.proofs.Closing.{MayFollow, entry_shuts_unread, exit_shuts_unread, told_above, told_below}
 use Rattle.law_machine_custody.proofs.Goes.{goes_not, goes_then, met_append}
 use Rattle.law_machine_custody.proofs.HearingEntry.{same_entry}
 use Rattle.law_machine_custody.proofs.HearingExit.{same_exit}
@@ -140,9 +140,6 @@ pub both_tick_unread : {afar : Afar} {above : List Record} {us : List Sensed} {g
     → Good afar above us ga gb body c → GoesBy afar above us ga gb c (both_tick desk body)
 both_tick_unread body c desk n m g = goes_then (ticks desk Entry body) (ticks desk Exit) (ticks_go body c desk Entry n g) (λ a b next. ticks_go _ _ desk Exit m next)
 
-pub both_tick_go : {afar : Afar} {above : List Record} {ga gb : Ghost} (body : Machine) (c : Scene) (desk : Desk) → Good afar above [] ga gb body c → GoesBy afar above [] ga gb c (both_tick desk body)
-both_tick_go body c desk g = both_tick_unread body c desk none_unread all_read g
-
 -- ---- a shutdown
 
 exit_ends : {afar : Afar} {above : List Record} {us : List Sensed} {ga gb : Ghost} (body : Machine) (c : Scene) (desk : Desk) (s : SessionEnd) (row : SessionRow) → IsSessionRow s to_shut_down row
@@ -166,18 +163,12 @@ pub both_shut_down_unread : {afar : Afar} {above : List Record} {us : List Sense
     → Good afar above us ga gb body c → GoesBy afar above us ga gb c (both_shut_down desk body)
 both_shut_down_unread body c desk n m g = goes_then (shuts_down desk Entry body) (shuts_down desk Exit) (ends_go body c desk Entry n g) (λ a b next. ends_go _ _ desk Exit m next)
 
-pub both_shut_down_go : {afar : Afar} {above : List Record} {ga gb : Ghost} (body : Machine) (c : Scene) (desk : Desk) → Good afar above [] ga gb body c → GoesBy afar above [] ga gb c (both_shut_down desk body)
-both_shut_down_go body c desk g = both_shut_down_unread body c desk none_unread all_read g
-
 -- ---- what is found closed, and what the machine is willing to do
 
 pub if_open_goes : {afar : Afar} {above : List Record} {us : List Sensed} {ga gb : Ghost} {c : Scene} (test : Bool) (did : Done) (body : Machine) → Good afar above us ga gb body c
     → (test ≡ true → GoesBy afar above us ga gb c did) → GoesBy afar above us ga gb c (if_open test did body)
 if_open_goes true did body g goes = goes refl
 if_open_goes false did body g goes = goes_not g
-
-pub notices_go : {afar : Afar} {above : List Record} {ga gb : Ghost} {body : Machine} {c : Scene} (desk : Desk) (side : Side) → Good afar above [] ga gb body c → GoesBy afar above [] ga gb c (notices desk side body)
-notices_go {body = body} desk side g = if_open_goes (is_open side body) (behind (acts.Notices side ∷ []) (ended desk side body)) body g (λ open_now. noticed_go desk side g)
 
 pub wills_go : {afar : Afar} {above : List Record} {us : List Sensed} {ga gb : Ghost} {body : Machine} {c : Scene} (side : Side) (on : Bool) → Good afar above us ga gb body c → GoesBy afar above us ga gb c (wills side on body)
 wills_go {ga = ga} {gb = gb} Entry on g = record {

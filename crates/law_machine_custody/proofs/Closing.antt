@@ -149,7 +149,3 @@ pub noticed_unread : {afar : Afar} {above : List Record} {us : List Sensed} {ga 
     → Good afar above us ga gb body c → GoesBy afar above us ga gb c (behind (acts.Notices side ∷ []) (ended desk side body))
 noticed_unread {body = body} desk Entry n g = goes_behind (acts.Notices Entry ∷ []) (ended desk Entry body) (entry_shuts_unread desk (at_rest body.entry.session.role) [] refl g.entry_role refl n g)
 noticed_unread {body = body} desk Exit n g = goes_behind (acts.Notices Exit ∷ []) (ended desk Exit body) (exit_shuts_unread desk (at_rest body.exit.session.role) [] refl g.exit_role refl n g)
-
-pub noticed_go : {afar : Afar} {above : List Record} {ga gb : Ghost} {body : Machine} {c : Scene} (desk : Desk) (side : Side)
-    → Good afar above [] ga gb body c → GoesBy afar above [] ga gb c (behind (acts.Notices side ∷ []) (ended desk side body))
-noticed_go {ga = ga} desk side g = noticed_unread desk side (none_follows ga side) g

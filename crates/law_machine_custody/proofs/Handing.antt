@@ -1,5 +1,5 @@
 -- Boards are put in, taken out, replaced and marked by hand, at a machine that has read all events.
-use Rattle.std.proofs.Common.{Bool, List, None, Option, Some, [], ap, eqb-true, false, inl, nat_eq, refl, subst, sym, true, ℕ, ◌++◌, ◌==◌, ◌∙◌, ◌∷◌, ◌≡◌, ◌⊎◌, if◌then◌else◌}
+use Rattle.std.proofs.Common.{Bool, List, None, Option, Some, [], ap, eqb-true, false, nat_eq, refl, subst, sym, true, ℕ, ◌++◌, ◌==◌, ◌∙◌, ◌∷◌, ◌≡◌, ◌⊎◌, if◌then◌else◌}
 use Rattle.line_base.specs.declared.states.Quality.{Quality}
 use Rattle.board_record.specs.Record.{plain_record}
 use Rattle.board_record.specs.declared.record.Record.{Record}
@@ -20,7 +20,7 @@ use Rattle.law_custody.specs.Events.{IsContent, gone_by}
 use Rattle.law_custody.specs.Hands.{IsOther, PutFor, TakenOut, out_here, out_later, put_here, put_later}
 use Rattle.law_custody.specs.Pair.{Body, Ghost}
 use Rattle.law_custody.proofs.Hands.{body_inserted, body_marked}
-use Rattle.law_custody.proofs.HandsContents.{contents_given, contents_gone, contents_inserted, contents_marked, contents_removed, contents_replaced}
+use Rattle.law_custody.proofs.HandsContents.{contents_given, contents_inserted, contents_marked, contents_removed, contents_replaced}
 use Rattle.law_custody.proofs.HandsFloor.{removes_board, replaces_board}
 use Rattle.law_machine_custody.specs.Scene.{Scene, all_met, link_below}
 use Rattle.law_machine_custody.specs.ByHand.{AreHere, Grows, IsNotLast}
@@ -48,11 +48,6 @@ by_hand gone2 kept boards g grows here keeps body contents = record {
   here = here;
   recent = g.recent;
 }
-
--- nothing changes but what is gone
-pub still_good : {afar : Afar} {above : List Record} {us : List Sensed} {ga gb : Ghost} {body : Machine} {c : Scene} (gone2 : ℕ → Bool)
-    → Good afar above us ga gb body c → Grows afar.gone_below gone2 → AreHere gone2 c.boards → Good (record afar { gone_below = gone2 }) above us ga gb body c
-still_good {body = body} {c = c} gone2 g grows here = by_hand gone2 body.kept c.boards g grows here (λ x k. inl k) g.boards (contents_gone grows g.below_contents)
 
 -- ---- a board is put in
 

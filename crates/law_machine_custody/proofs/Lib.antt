@@ -17,7 +17,6 @@ pub mod Beside
 pub mod BehindReading
 pub mod Elsewhere
 pub mod Step
-pub mod Leaving
 pub mod Quiet
 pub mod Connecting
 pub mod Called

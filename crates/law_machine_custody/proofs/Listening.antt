@@ -224,7 +224,3 @@ exit_hears_then desk heard_one rest body c role is = exit_then desk heard_one re
 pub entry_hears_then : (desk : Desk) (heard_one : Message) (rest : List Horizontal) (body : Machine) (c : Scene) → body.entry.session.role ≡ Downstream → unheard Entry c ≡ heard_one.body ∷ rest
     → Then Entry rest (hears desk Entry heard_one body) c
 entry_hears_then desk heard_one rest body c role is = entry_then desk heard_one rest body c (session_row body.entry.session (heard heard_one.body (is_some (held body.outlet)))) refl role is
-
--- a wrong word closes the side
-pub breach_then : (desk : Desk) (side : Side) (text : List ℕ) (rest : List Horizontal) (body : Machine) (c : Scene) → Then side rest (breaches desk side text body) c
-breach_then desk side text rest body c = closed (breach_shuts desk side text body)

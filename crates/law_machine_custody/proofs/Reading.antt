@@ -17,7 +17,7 @@ use Rattle.law_custody.proofs.EntryEvents.{fails_unread as entry_fails, reads_en
 use Rattle.law_custody.proofs.ExitEvents.{fails_unread as exit_fails, reads_exit, skips_exit}
 use Rattle.law_machine_custody.specs.Scene.{Scene, all_met, link_above, link_below}
 use Rattle.law_machine_custody.specs.Good.{Afar, GoesBy, Good}
-use Rattle.law_machine_custody.proofs.Closing.{MayFollow, none_follows}
+use Rattle.law_machine_custody.proofs.Closing.{MayFollow}
 use Rattle.law_machine_custody.proofs.Goes.{met_append}
 use Rattle.law_machine_custody.proofs.Rows.{at_entry_goes, at_entry_good, at_exit_goes, at_exit_good}
 
@@ -42,7 +42,3 @@ pub faults_unread : {afar : Afar} {above : List Record} {us : List Sensed} {ga g
     → Good afar above us ga gb body c → GoesBy afar above us ga gb c (faults desk side body)
 faults_unread {us = us} {ga = ga} {body = body} {c = c} desk Entry n g = at_entry_goes desk in_input.Fault tt g (entry_fails ga (link_above us body c) g.above_pair n) g.below_pair
 faults_unread {us = us} {gb = gb} {body = body} {c = c} desk Exit n g = at_exit_goes desk out_input.Fault tt tt g (exit_fails gb (link_below us body c) g.below_pair n) g.above_pair
-
-pub faults_go : {afar : Afar} {above : List Record} {ga gb : Ghost} {body : Machine} {c : Scene} (desk : Desk) (side : Side)
-    → Good afar above [] ga gb body c → GoesBy afar above [] ga gb c (faults desk side body)
-faults_go {ga = ga} desk side g = faults_unread desk side (none_follows ga side) g

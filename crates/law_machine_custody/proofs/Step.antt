@@ -10,21 +10,20 @@ use Rattle.line_world.specs.FloorPlan.{with_new_id, without_board}
 use Rattle.line_world.specs.declared.board.Board.{Board}
 use Rattle.node_core.specs.Boards.{adds_sub, gets, gives, inserts, is_kept, marks, removes, replaces, takes_sub, with_instead, with_mark, with_sub, without}
 use Rattle.node_core.specs.Desk.{Desk}
-use Rattle.node_core.specs.Event.{Event, Gets, Gives, Insert, Mark, Remove, Replace, Sub, event_did}
+use Rattle.node_core.specs.Event.{Event, Gets, Gives, Insert, Mark, Remove, Replace, Sub}
 use Rattle.node_core.specs.Halves.{OffersFront}
 use Rattle.node_core.specs.Step.{machine_step}
 use Rattle.node_core.specs.declared.act.Act.TheVariants as acts
 use Rattle.node_core.specs.declared.lane.Body.{Body as Machine}
 use Rattle.node_core.proofs.Offers.{to_offers}
 use Rattle.law_custody.specs.Pair.{Ghost}
-use Rattle.law_machine_custody.specs.Scene.{Scene, all_met}
+use Rattle.law_machine_custody.specs.Scene.{Scene}
 use Rattle.law_machine_custody.specs.Good.{Afar, GoesBy, Good, Lies}
 use Rattle.law_machine_custody.specs.Ahead.{GoesAhead, IsFreeRead}
 use Rattle.law_machine_custody.specs.Flight.{IsPlain}
 use Rattle.law_machine_custody.specs.ByHand.{AreHere, Grows, IsNotLast, body_read, scene_read}
 use Rattle.law_machine_custody.specs.InTime.{IsMetInTime, IsReadEnough}
 use Rattle.law_machine_custody.specs.Unique.{IsFrontOnce, IsApart}
-use Rattle.law_machine_custody.proofs.Announcing.{all_free_read}
 use Rattle.law_machine_custody.proofs.BehindReading.{read_idle, read_last, read_lists, read_untouched}
 use Rattle.law_machine_custody.proofs.Handing.{gets_good, goes_to_lane, inserts_good, marks_good, removes_good, replaces_good, subs_good}
 use Rattle.law_machine_custody.proofs.Elsewhere.{is_elsewhere}
@@ -34,12 +33,6 @@ use Rattle.law_machine_custody.proofs.InTime.{met_in_time}
 use Rattle.law_machine_custody.proofs.FrontRead.{Reads, reads_all, reads_front}
 use Rattle.law_machine_custody.proofs.Rows.{goes_good}
 use Rattle.law_machine_custody.proofs.Timely.{kept_free, plain_ahead, read_enough}
-
--- the event keeps the relation behind the reading, and so the step does
-pub step_by : {afar : Afar} {above : List Record} {ga gb : Ghost} (desk : Desk) (unread : List Sensed) (event : Event) (body : Machine) (c : Scene)
-    → GoesBy afar above [] ga gb (scene_read desk unread body c) (event_did desk event (body_read desk unread body))
-    → GoesBy afar above [] ga gb c (machine_step desk unread event body)
-step_by desk unread event body c goes = (step_ahead desk unread event body c (record { goes = goes; read = all_free_read })).goes
 
 -- ---- the events that change no board by hand, and make no connection, from what holds of a machine between its steps
 

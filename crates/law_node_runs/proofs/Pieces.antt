@@ -177,11 +177,6 @@ accepted_behind {rules} {s} {t} {log} (part_steps input is st) = step_behind inp
 abbrev heard_at : Option (List ℕ) → Side → RunState → Type 0
 heard_at bytes side s = s.held.finding ≡ Some (record { side = side; bytes = bytes })
 
--- what is held for a side that is heard
-held_is : (side : Side) (bytes : List ℕ) → held_by side side (Some bytes) ≡ bytes
-held_is Entry bytes = refl
-held_is Exit bytes = refl
-
 bytes_pending : {rules : Rules} {s t : RunState} {log : List ℕ} {given heard : List ℕ} (side at : Side) (input : Input) (bytes : List ℕ) → heard_at (Some bytes) side s → heard_by at input ≡ held_by at side (Some bytes)
     → opens_at at input ≡ false → (is_open at s.node.lane.body ≡ false → heard_by at input ≡ []) → (st : Stepped rules input (with_held nothing_held s) t log) → Pending false at s given heard → Pending false at t given (heard ++ heard_by at input)
 bytes_pending {s = s} {t = t} {given = given} {heard = heard} side at input bytes held same plain dry st (all_heard is) =

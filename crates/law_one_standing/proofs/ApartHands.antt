@@ -133,13 +133,6 @@ removes_told number m x s after told steps kept =
     let f : Bool → List Act = λ kept. (if_kept kept (with_kept (without x body.kept) body) (acts.Removes x) body).acts in
     step_told number m (inputs.Remove x) (acts.Removes x) s after told steps (ap f kept) (λ w. refl)
 
--- or gives it to another lane of the machine, or gets it from there
-pub gives_told : (number m x to : ℕ) (s after : LineState) (told : List Happening) (steps : MachineSteps number m (inputs.Gives x to) s after told) → is_kept x (body_then number m (inputs.Gives x to) s after told steps).kept ≡ true → IsTold (happenings.Done m (acts.Gives x to)) told
-gives_told number m x to s after told steps kept =
-    let body = body_then number m (inputs.Gives x to) s after told steps in
-    let f : Bool → List Act = λ kept. (if_kept kept (with_kept (without x body.kept) body) (acts.Gives x to) body).acts in
-    step_told number m (inputs.Gives x to) (acts.Gives x to) s after told steps (ap f kept) (λ w. refl)
-
 pub gets_told : (number m : ℕ) (board : Record) (s after : LineState) (told : List Happening) → MachineSteps number m (inputs.Gets board) s after told → IsTold (happenings.Done m (acts.Gets board.id)) told
 gets_told number m board s after told steps = step_told number m (inputs.Gets board) (acts.Gets board.id) s after told steps refl (λ w. refl)
 

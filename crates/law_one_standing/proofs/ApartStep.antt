@@ -14,7 +14,7 @@ use Rattle.line_report.specs.declared.happening.Happening.TheVariants as happeni
 use Rattle.node_core.specs.declared.act.Act.TheVariants as acts
 use Rattle.node_core.specs.declared.input.Input.TheVariants as inputs
 use Rattle.node_core.specs.Node.{NodeState}
-use Rattle.line_step.specs.FloorIds.{AllChange, ChangesBoards, boards_of, made_by, made_in}
+use Rattle.line_step.specs.FloorIds.{AllChange, ChangesBoards, boards_of}
 use Rattle.line_step.specs.Lines.{LineDoes, LineSteps}
 use Rattle.line_step.specs.Shown.{standings_told}
 use Rattle.line_step.specs.State.{LineState}
@@ -157,11 +157,6 @@ replaces_loses machine x now old new change apart = own_changed_count x now old 
 
 pub gives_loses : (machine x to : ℕ) → Loses x (happenings.Done machine (acts.Gives x to))
 gives_loses machine x to old new loss apart = own_lost_count x old new loss.0 loss.1 loss.2
-
--- an old id is none that is made
-pub fresh_not : (nodes : List NodeState) (x : ℕ) (ids : List ℕ) → IsOld 1 nodes x → AllByRecursion (λ (id : ℕ). (other : ℕ) → IsOld 1 nodes other → other ≢ id) ids → IsNot x ids
-fresh_not nodes x [] old fresh = tt
-fresh_not nodes x (id ∷ ids) old fresh = (fresh.0 x old, fresh_not nodes x ids old fresh.1)
 
 pub old_count : (s after : LineState) (told : List Happening) (x : ℕ) → Goes s after told → IsNot x (come_by told) → counted x (boards_of after) ≤ counted x (boards_of s)
 old_count s after told x goes apart = all_count told x (boards_of s) (boards_of after) goes.change apart

@@ -103,9 +103,6 @@ deaf_count side (acts_more {act = act} {others = others} one more) = deaf_by sid
 plain_deaf : IsPlain IsDeaf
 plain_deaf = record { reads = λ side event. tt; deeds = λ deed. tt; drives = λ side on. tt }
 
-deaf_one : {act : Act} → IsDeaf act → AllActs IsDeaf (act ∷ [])
-deaf_one is = acts_more is acts_none
-
 -- ---- the halves
 
 pub outlet_deaf : (desk : Desk) (body : Body) (row : Option OutRow) → AllActs IsDeaf (outlet_row_did desk body row).acts

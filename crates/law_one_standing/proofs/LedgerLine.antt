@@ -191,12 +191,6 @@ machine_led {Older} {Old} number machine input before after told more steps new 
 
 -- ---- a new id
 
-same_ok : {id other : ℕ} → ◌≡◌ {A = Result ℕ IdsUsedUp} (Ok id) (Ok other) → id ≡ other
-same_ok e = cc
-
-not_err : {id : ℕ} {why : IdsUsedUp} → ◌≡◌ {A = Result ℕ IdsUsedUp} (Err why) (Ok id) → ⊥
-not_err e = cc
-
 new_at : (nodes : List NodeState) (place id : ℕ) (node next : NodeState) → AreNumbered 1 nodes → slice_get nodes place ≡ Some node → next.maker ≡ after_next node.maker → next_id node.maker ≡ Ok id → IsMadeNow (IsOld 1 nodes) (IsOld 1 (slice_set nodes place next)) id
 new_at nodes place id node next own found made is =
     let new : IsNew node.maker id = new_by (nat_le 281474976710655 node.maker.used) node.maker id refl is in

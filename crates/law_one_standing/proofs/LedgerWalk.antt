@@ -21,7 +21,6 @@ use Rattle.std.proofs.Common.{
   None,
   refl,
   sym,
-  ap,
 }
 use Rattle.std.specs.Prelude.{slice_get}
 use Rattle.std.proofs.lemmas.Bool.{and_parts}
@@ -90,7 +89,7 @@ use Rattle.node_core.specs.declared.act.Act.{Act}
 use Rattle.node_core.specs.declared.act.Act.TheVariants as acts
 use Rattle.node_core.specs.declared.act.Deed.{Deed}
 use Rattle.node_core.specs.declared.lane.Body.{Body}
-use Rattle.node_core.specs.Done.{Done, done, stays, and_then}
+use Rattle.node_core.specs.Done.{Done, done, and_then}
 use Rattle.node_core.specs.Told.{out_told, in_told}
 use Rattle.node_core.specs.Sides.{session_at, with_session}
 use Rattle.node_core.specs.Halves.{
@@ -118,9 +117,6 @@ use Rattle.node_core.specs.Announces.{
 }
 use Rattle.node_core.specs.Event.{Event, Gets, Gives, Insert, Remove, Replace, event_did}
 use Rattle.node_core.specs.Step.{plain_step}
-use Rattle.node_core.specs.Supervising.{with_tells}
-use Rattle.node_core.specs.declared.supervising.Watch.{Watch}
-use Rattle.node_core.proofs.Telling.{tells_pass}
 use Rattle.node_core.specs.Own.{with_id_instead, without_id, Own, own_by, own_of, ids_of, id_of}
 use Rattle.node_core.specs.declared.act.Deed.TheVariants as deeds
 use Rattle.node_core.proofs.HalfRows.{IsNoStart, IsPlain}
@@ -204,14 +200,6 @@ is_silent _ = true
 abbrev pub are_silent : List Act → Bool
 are_silent [] = true
 are_silent (act ∷ others) = is_silent act && are_silent others
-
--- what the supervisor is told moves no record
-pub tells_silent : (desk : Desk) (watch : Watch) (made : List Act)
-    → are_silent (with_tells desk watch made) ≡ are_silent made
-tells_silent desk watch made =
-    tells_pass are_silent (λ act told plain same. ap (λ (rest : Bool). is_silent act && rest) same)
-    (λ message told. refl)
-    desk watch made
 
 abbrev pub own_parts : List ℕ → Option ℕ → Option ℕ → Own
 own_parts kept held taking = record { kept = kept; held = held; taking = taking }
@@ -482,9 +470,6 @@ event_meets desk event body new = meets_walk (walks (event_made desk event body)
 record Quiet (body : Body) (d : Done) : Type 0 where
   silent : are_silent d.acts ≡ true
   same : own_of d.body ≡ own_of body
-
-quiet_still : (body : Body) → Quiet body (stays body)
-quiet_still body = record { silent = refl; same = refl }
 
 revoke_silent : (desk : Desk) (intake : InState) {s : OutState} {r : OutRow} (kept : List Record) → IsOutletRow s out_input.Revoke r → (are_silent (out_told desk kept r.act) ≡ true) × (own_by (given_back r.act.back kept) r.after intake ≡ own_by kept s intake)
 revoke_silent desk intake kept revokes = (refl, refl)

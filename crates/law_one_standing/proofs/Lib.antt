@@ -60,7 +60,6 @@ pub mod Plain
 pub mod RestLine
 pub mod RestMore
 pub mod RestNone
-pub mod RestReal
 pub mod RestScene
 pub mod Signalled
 pub mod SpoilingLine
@@ -72,5 +71,4 @@ pub mod FirstJoin
 pub mod SecondJoin
 pub mod Connected
 pub mod Reaching
-pub mod Playing
 pub mod Reached

@@ -1,28 +1,20 @@
 -- A line that a run has led to, and the next line of its script; and which machine made an id.
-use Rattle.std.proofs.Common.{List, Some, [], ap, arith, eq-eqb, inl, inr, length, refl, slice_get, suc, subst, sym, true, zero, ℕ, ◌++◌, ◌+◌, ◌∙◌, ◌∷◌, ◌≡◌, ◌≤◌}
+use Rattle.std.proofs.Common.{List, Some, [], arith, eq-eqb, inl, inr, refl, slice_get, suc, subst, sym, true, zero, ℕ, ◌++◌, ◌+◌, ◌∙◌, ◌∷◌, ◌≡◌, ◌≤◌}
 use Rattle.std.specs.List.{AllByRecursion}
-use Rattle.line_step.proofs.Counted.{steps-counts}
-use Rattle.line_step.proofs.Running.{short-more}
 use Rattle.line_world.specs.FloorPlan.{has_id}
 use Rattle.line_world.specs.declared.board.Board.{Board}
 use Rattle.line_report.specs.declared.happening.Happening.{Happening}
 use Rattle.node_core.specs.Node.{NodeState}
-use Rattle.line_step.specs.Lines.{Counts, LineSteps}
+use Rattle.line_step.specs.Lines.{LineSteps}
 use Rattle.line_step.specs.Tracks.{ComesFromElsewhere, TrackLine, TrackSteps, own_line}
-use Rattle.line_step.specs.Homes.{IsNewcomer}
-use Rattle.line_step.proofs.Newcomers.{newcomers-append}
-use Rattle.line_step.proofs.Vouching.{unvouched-before}
-use Rattle.line_step.specs.Runs.{IsRun, Point, all_told, state_behind}
+use Rattle.line_step.specs.Runs.{IsRun, Point, state_behind}
 use Rattle.line_step.specs.State.{LineState, machine_in, no_line}
 use Rattle.line_step.specs.Requests.{Request}
 use Rattle.step_rules.specs.Makers.{IsMadeBy, IsOld}
 use Rattle.law_one_standing.specs.Reached.{HasMadeId, IsMade, IsReached}
-use Rattle.law_one_standing.specs.Standing.{IsFitRequest, IsFitTrack}
+use Rattle.law_one_standing.specs.Standing.{IsFitTrack}
 
 -- ---- a line more
-
-pub none_reached : IsReached no_line
-none_reached = record { asked = []; points = []; fit = λ none. tt; short = tt; few = omega arith; run = tt; behind = refl; newcomers = λ none. tt }
 
 pub fit_more : (asked : List TrackLine) (line : TrackLine) → AllByRecursion IsFitTrack asked → IsFitTrack line → AllByRecursion IsFitTrack (asked ++ line ∷ [])
 fit_more [] line fit one = (one, tt)
@@ -42,21 +34,6 @@ pub reached_run : (request : Request) (before after : LineState) (told : List Ha
 reached_run request before after told was steps from =
     run_more no_line was.asked was.points (own_line request) (record { told = told; after = after }) was.run
     (subst (λ (s : LineState). LineSteps (s.lines + 1) request s after told × ComesFromElsewhere request s) (sym was.behind) (steps, from))
-
-pub reached_more : (request : Request) (before after : LineState) (told : List Happening) → (was : IsReached before) → IsFitRequest request → IsNewcomer (all_told was.points) (own_line request) → ComesFromElsewhere request before → before.lines + 1 ≤ 1000000 → LineSteps (before.lines + 1) request before after told → IsReached after
-reached_more request before after told was fit new from few steps =
-    let point : Point = record { told = told; after = after } in
-    let counts : Counts before.lines after.lines = steps-counts (before.lines + 1) request before after told steps in
-    record {
-      asked = was.asked ++ own_line request ∷ [];
-      points = was.points ++ point ∷ [];
-      fit = λ none. fit_more was.asked (own_line request) (was.fit (unvouched-before (before.lines + 1) request before after told steps none)) fit;
-      short = short-more no_line was.points point was.short (subst (λ (s : LineState). s.lines + 1 ≤ 1000000) (sym was.behind) few);
-      few = omega (arith, counts.most, few);
-      run = reached_run request before after told was steps from;
-      behind = behind_more no_line was.points point;
-      newcomers = λ none. newcomers-append [] no_line was.asked (own_line request ∷ []) was.points (point ∷ []) was.run (was.newcomers (unvouched-before (before.lines + 1) request before after told steps none)) (new, tt);
-    }
 
 -- ---- the machine that made an id
 

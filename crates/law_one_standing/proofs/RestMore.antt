@@ -1,6 +1,6 @@
 -- One machine more at the end of a line: the relation of the line goes on. It holds by numbers beyond the ends too, where a
 -- machine has nothing, and a new machine has nothing; so machines, places, links and gaps are what they were.
-use Rattle.std.proofs.Common.{Bool, List, [], ap, arith, codes, decimal, false, inl, inr, length, length-append, refl, subst, suc, sym, true, zero, ℕ, ◌&&◌, ◌++◌, ◌+◌, ◌-◌, ◌<◌, ◌^◌, ◌∙◌, ◌∷◌, ◌≡◌, ◌≤◌, ◌⊎◌}
+use Rattle.std.proofs.Common.{Bool, List, [], ap, arith, codes, decimal, false, length, length-append, refl, subst, suc, sym, true, zero, ℕ, ◌&&◌, ◌++◌, ◌+◌, ◌-◌, ◌<◌, ◌^◌, ◌∙◌, ◌∷◌, ◌≡◌, ◌≤◌, ◌⊎◌}
 use Rattle.std.specs.Prelude.{nat_le, nat_lt, slice_index_or}
 use Rattle.std.proofs.lemmas.Bool.Decides.{nat_tests}
 use Rattle.line_step.proofs.Counted.{rises}
@@ -11,7 +11,7 @@ use Rattle.line_base.specs.Text.{IsText}
 use Rattle.line_base.proofs.Printable.{IsText-from_printable, length-decimal, plain-append, plain-decimal}
 use Rattle.line_link.specs.Flow.{coming}
 use Rattle.line_link.specs.Link.{LinkParts, no_link}
-use Rattle.line_world.specs.FloorPlan.{AtMachine, IsWhole, empty_machine, free_gap, gap_at, machine_at}
+use Rattle.line_world.specs.FloorPlan.{AtMachine, empty_machine, gap_at, machine_at}
 use Rattle.line_world.specs.declared.gap.AtGap.{AtGap}
 use Rattle.node_core.specs.Node.{NodeState, new_node}
 use Rattle.node_core.specs.declared.lane.Lane.{Lane}
@@ -28,7 +28,7 @@ use Rattle.line_step.specs.World.{link_at}
 use Rattle.line_step.proofs.FloorLaws.{Holds, steps-goes}
 use Rattle.line_step.proofs.Keeps.{more_at, more_together}
 use Rattle.step_rules.proofs.Makers.{old-last}
-use Rattle.line_step.proofs.Numbers.{none_or_one, number_more, number_past}
+use Rattle.line_step.proofs.Numbers.{number_more}
 use Rattle.law_link_messages.specs.Fit.{IsFitBody, IsFitMaker}
 use Rattle.law_link_messages.proofs.Eventing.{first_body_fits}
 use Rattle.law_one_standing.specs.Carried.{Carried, Carries, IsFitMachine, Trace, between_of, carries_over, stand_of}
@@ -132,22 +132,8 @@ keeps_seen ms bs keeps = record {
 
 -- ---- where there is no link nothing flows
 
-beyond_links : (link machines links : ℕ) → links ≡ machines - 1 → 1 ≤ link → (nat_le 1 link && nat_lt link machines) ≡ false → links < link
-beyond_links link machines links is counted none = grind (arith, nat_tests)
-
 pub no_link_at : (s : LineState) (link : ℕ) → IsLineTogether s → has_link link s ≡ false → link_at link s.world ≡ no_link
 no_link_at s link together none = loose_link s link together.links none
-
-loose_gap_by : (s : LineState) (gap : ℕ) → IsWhole s.world.floor → length s.world.floor.machines ≡ length s.machines → has_link gap s ≡ false → (gap ≡ 0) ⊎ (1 ≤ gap) → gap_at s.world.floor gap ≡ free_gap
-loose_gap_by s gap whole many none (inl zeroth) = rw zeroth refl
-loose_gap_by s gap whole many none (inr counted) =
-    number_past s.world.floor.gaps gap free_gap (beyond_links gap (length s.machines) (length s.world.floor.gaps) (whole ∙ ap (λ (count : ℕ). count - 1) many) counted none)
-
-pub loose_gap : (s : LineState) (gap : ℕ) → IsWhole s.world.floor → length s.world.floor.machines ≡ length s.machines → has_link gap s ≡ false → gap_at s.world.floor gap ≡ free_gap
-loose_gap s gap whole many none = loose_gap_by s gap whole many none (none_or_one gap)
-
-pub no_gap_at : (s : LineState) (gap : ℕ) → Holds s → has_link gap s ≡ false → gap_at s.world.floor gap ≡ free_gap
-no_gap_at s gap holds none = loose_gap s gap holds.whole holds.many none
 
 -- ---- the bytes of the links
 

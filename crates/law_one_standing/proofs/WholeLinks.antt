@@ -1,6 +1,6 @@
 -- What stands together in each link still does after a line of the script.
 use Rattle.std.proofs.Common.{Bool, List, None, Option, Some, [], ap, arith, false, length, lt-ltb, ltb-true, refl, subst, sym, true, ℕ, ◌&&◌, ◌+◌, ◌-◌, ◌<◌, ◌∷◌, ◌≡◌, ◌≢◌, ◌⊎◌}
-use Rattle.std.specs.Prelude.{cond, drop, is_some, not, suc, take, zero}
+use Rattle.std.specs.Prelude.{cond, drop, is_some, not, take}
 use Rattle.std.proofs.lemmas.Bool.{eq-eqb}
 use Rattle.std.proofs.lemmas.List.{length-append, length-take-le}
 use Rattle.line_link.proofs.Together.{still_dry}
@@ -25,11 +25,10 @@ use Rattle.line_step.specs.Acts.{act_did, acts_did, answers}
 use Rattle.line_step.specs.Lines.{Connects, Flows, LineDoes, arrived, connecting, met}
 use Rattle.line_step.specs.Together.{is_linked}
 use Rattle.line_step.specs.Reasons.{has_neighbour, if_there, link_stands, may_do, may_spoil, no_if}
-use Rattle.line_step.specs.State.{LineState, machine_in, no_line, one_more}
+use Rattle.line_step.specs.State.{LineState, machine_in, one_more}
 use Rattle.line_step.specs.Steps.{MachineSteps, is_second, read_by}
 use Rattle.line_step.specs.World.{WorldParts, end_of, link_at, link_of, with_link}
 use Rattle.line_step.proofs.Keeps.{more_at}
-use Rattle.line_step.proofs.Numbers.{link_beyond}
 use Rattle.law_one_standing.specs.Links.{AreWholeLinks, IsWholeLink}
 use Rattle.line_step.specs.Requests.{Request}
 use Rattle.line_step.proofs.Effects.{Effect, becomes_by, line_effect}
@@ -208,10 +207,6 @@ can_spoil machine side s may =
     can_by machine side s (machine_in machine s) (has_neighbour machine side s) (not (is_linked machine side s.world)) (link_stands machine side s.world) refl refl refl may
 
 -- ---- a line of the script
-
-pub none_whole_links : AreWholeLinks no_line
-none_whole_links zero = whole_none
-none_whole_links (suc place) = subst IsWholeLink (sym (link_beyond (suc place) no_line.world (omega arith))) whole_none
 
 effect_whole : (number : ℕ) (request : Request) (before next : LineState) (told : List Happening) → AreWholeLinks before → Effect number before next told request → AreWholeLinks next
 effect_whole number request before next told all (effects.rests _ what remarks b) = becomes_by (λ s ts. AreWholeLinks s) b all

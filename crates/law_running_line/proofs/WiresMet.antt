@@ -37,8 +37,8 @@ use Rattle.law_running_line.specs.Waits.{had_above, had_below}
 use Rattle.law_running_line.specs.Wire.{Awaits, Coming, Has, Hold, Left, Wire, given, read_at, with_end, with_read}
 use Rattle.law_running_line.proofs.Waiting.{wire_of}
 use Rattle.law_running_line.proofs.WiresActs.{Wired}
-use Rattle.law_running_line.proofs.WiresBytes.{Arrives, amid_get, arrives, bytes_entry, bytes_exit, parted}
-use Rattle.law_running_line.proofs.WiresLink.{IsLink, any_amid, at_amid, has_is}
+use Rattle.law_running_line.proofs.WiresBytes.{amid_get, bytes_entry, bytes_exit}
+use Rattle.law_running_line.proofs.WiresLink.{IsLink, any_amid, has_is}
 use Rattle.law_running_line.proofs.WiresWalk.{did_wired, read_wires, wires_own}
 
 -- ---- a place among connections, and what is read of all of them
@@ -121,22 +121,6 @@ below_bytes alone {t} j {piece = piece} {moment = moment} {before = before} {aft
     (wires_at j Exit (given Exit (length piece.now)) turn _ turn.after_is refl (λ k w. given_read Exit (length piece.now) k w)) turn.steps.lane.brings.0 (λ still. words_heard Exit piece turn.steps still) (λ off. words_close Exit piece turn.steps on off)
     (sym (steps_open turn.node turn.read (inputs.Bytes Exit piece) moment turn.next told Exit turn.steps))
 
--- what is heard at the exit are the oldest messages to it
-pub below_heard : SaysAlone → {t : Trace} (j : ℕ) {reading : Reading} {piece : Bor (List ℕ)} {moment : ℤ} {before after : Running} {told : List Act} → Stands t before → (turn : Turns reading (j + 1) (inputs.Bytes Exit piece) moment before after told)
-    → Arrives Exit told turn.steps.lane.words turn.next.lane.exit_bytes (drop (length piece.now) turn.meets.at.wire.up) (t.up (j + 1))
-below_heard alone {t} j {piece = piece} {before = before} {told = told} st turn =
-    let own : node_in before (j + 1) ≡ turn.node = node_there (j + 1) (line_of before) turn.node turn.there in
-    let b : NodeState = node_in before (j + 1 + 1) in
-    let link : IsLink (node_in before (j + 1)) b (unread_by (j + 1 + 1) before) (t.up (j + 1)) (t.down (j + 1)) (before.wires (j + 1)) = record { waits = st.waits (j + 1); carried = st.carried (j + 1) } in
-    let here : IsLink turn.node b (unread_by (j + 1 + 1) before) (t.up (j + 1)) (t.down (j + 1)) (before.wires (j + 1)) = subst (λ (n : NodeState). IsLink n b (unread_by (j + 1 + 1) before) (t.up (j + 1)) (t.down (j + 1)) (before.wires (j + 1))) own link in
-    let comes = turn.meets in
-    let wire : Wire = comes.at.wire in
-    let n : ℕ = length piece.now in
-    let amid = amid_get (before.wires (j + 1)) turn.place wire comes.at.there in
-    let on : is_open Exit turn.node.lane.body ≡ true = sym here.waits.exit_open ∙ any_amid had_above amid (has_is comes.at.held) in
-    arrives alone Exit told turn.steps.lane.words turn.node.lane.exit_bytes piece.now turn.next.lane.exit_bytes (is_open Exit turn.next.lane.body) wire.up (drop n wire.up) (parted n wire.up piece.now comes.front) turn.steps.lane.brings.0
-    (λ still. words_heard Exit piece turn.steps still) (λ off. words_close Exit piece turn.steps on off) (at_amid _ amid here.carried.up comes.at.held)
-
 -- ---- BYTES COME TO THE ENTRY
 
 pub above_bytes : SaysAlone → {t : Trace} (j : ℕ) {reading : Reading} {piece : Bor (List ℕ)} {moment : ℤ} {before after : Running} {told : List Act} → Stands t before → (turn : Turns reading (j + 1) (inputs.Bytes Entry piece) moment before after told) → AreFitActs told → IsFreeRead turn.rest turn.next.lane.body
@@ -155,19 +139,3 @@ above_bytes alone {t} j {piece = piece} {moment = moment} {before = before} {aft
     (wires_at j Entry (given Entry (length piece.now)) turn _ turn.after_is refl (λ k w. given_read Entry (length piece.now) k w)) in
     bytes_entry alone a turn.node turn.next (length (events_at Entry turn.read)) told (scene_of t before j) turn.place wire piece.now turn.steps.lane.words fit here refl there comes.at.held comes.some comes.front wired
     turn.steps.lane.brings.0 (λ still. words_heard Entry piece turn.steps still) (λ off. words_close Entry piece turn.steps on off) (sym (steps_open turn.node turn.read (inputs.Bytes Entry piece) moment turn.next told Entry turn.steps)) free
-
-pub above_heard : SaysAlone → {t : Trace} (j : ℕ) {reading : Reading} {piece : Bor (List ℕ)} {moment : ℤ} {before after : Running} {told : List Act} → Stands t before → (turn : Turns reading (j + 1) (inputs.Bytes Entry piece) moment before after told)
-    → Arrives Entry told turn.steps.lane.words turn.next.lane.entry_bytes (drop (length piece.now) turn.meets.at.wire.down) (t.down j)
-above_heard alone {t} j {piece = piece} {before = before} {told = told} st turn =
-    let own : node_in before (j + 1) ≡ turn.node = node_there (j + 1) (line_of before) turn.node turn.there in
-    let a : NodeState = node_in before j in
-    let link : IsLink a (node_in before (j + 1)) (unread_by (j + 1) before) (t.up j) (t.down j) (before.wires j) = record { waits = st.waits j; carried = st.carried j } in
-    let here : IsLink a turn.node (unread_by (j + 1) before) (t.up j) (t.down j) (before.wires j) = subst (λ (n : NodeState). IsLink a n (unread_by (j + 1) before) (t.up j) (t.down j) (before.wires j)) own link in
-    let comes = turn.meets in
-    let wire : Wire = comes.at.wire in
-    let n : ℕ = length piece.now in
-    let there : slice_get (before.wires j) turn.place ≡ Some wire = subst (λ (k : ℕ). slice_get (before.wires k) turn.place ≡ Some wire) (before_one j) comes.at.there in
-    let amid = amid_get (before.wires j) turn.place wire there in
-    let on : is_open Entry turn.node.lane.body ≡ true = sym here.waits.entry_open ∙ any_amid had_below amid (has_is comes.at.held) in
-    arrives alone Entry told turn.steps.lane.words turn.node.lane.entry_bytes piece.now turn.next.lane.entry_bytes (is_open Entry turn.next.lane.body) wire.down (drop n wire.down) (parted n wire.down piece.now comes.front) turn.steps.lane.brings.0
-    (λ still. words_heard Entry piece turn.steps still) (λ off. words_close Entry piece turn.steps on off) (at_amid _ amid here.carried.down comes.at.held)

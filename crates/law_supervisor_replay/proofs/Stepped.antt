@@ -6,7 +6,6 @@ use Rattle.law_one_standing.proofs.RestLine.{node_there}
 use mathlib.Core.Bool.{or-false}
 use Rattle.line_base.specs.declared.states.Side.TheVariants.{Entry}
 use Rattle.line_world.specs.FloorPlan.{machine_at}
-use Rattle.node_core.specs.Desk.{Desk}
 use Rattle.node_core.specs.Event.{event_of}
 use Rattle.node_core.specs.Node.{NodeState, desk_of}
 use Rattle.node_core.specs.Own.{own_of}
@@ -65,10 +64,6 @@ use Rattle.law_supervisor_replay.proofs.Tells.{left_append, told_append}
 use Rattle.law_supervisor_replay.proofs.Views.{Fares, Holds, fares_leaves, fares_lost, fares_missing, fares_new, fares_removed, fares_settles, fares_so, fares_upstream, IsFrom, IsPlaced, IsSame, IsSole, View, put}
 
 -- ---- what a step tells
-
-abbrev pub desk_in : (number machine : ℕ) (input : Input) (before after : LineState) (told : List Happening)
-    → MachineSteps number machine input before after told → Desk
-desk_in number machine input before after told steps = desk_of steps.node (moment_of number)
 
 abbrev pub tells_in : (number machine : ℕ) (input : Input) (before after : LineState) (told : List Happening)
     → MachineSteps number machine input before after told → List Act

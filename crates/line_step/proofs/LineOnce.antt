@@ -1,12 +1,11 @@
 -- A line of a script does one thing, and so does a run.
 use Rattle.std.proofs.Common.{◌≡◌, ◌+◌, ◌-◌, ◌++◌, ℕ, zero, suc, Bool, true, false, List, ◌∷◌, Option, Some, None, Result, Ok, Err, length, map, refl, sym, ap, subst, ◌∙◌, []}
 use Rattle.std.specs.Prelude.{pos, slice_get, slice_set, not, is_none, is_some}
-use Rattle.std.specs.List.{AllByRecursion, flat_map}
+use Rattle.std.specs.List.{flat_map}
 use Rattle.line_base.specs.declared.states.Side.{Side}
 use Rattle.line_base.specs.declared.states.Side.TheVariants.{Entry, Exit}
 use Rattle.board_record.specs.Maker.{Maker}
 use Rattle.board_record.specs.SubBoards.{unknown_sub}
-use Rattle.line_script.specs.declared.line.ScriptLine.{ScriptLine}
 use Rattle.line_script.specs.declared.line.ScriptLine.TheVariants as lines
 use Rattle.line_link.specs.Link.{connected_of}
 use Rattle.line_link.specs.declared.link.Connected.{Connected}
@@ -49,9 +48,9 @@ use Rattle.line_step.specs.Reasons.{May, behind_own, has_neighbour, if_there, is
 use Rattle.line_step.specs.Shown.{ascending, between_shown, ids_owned, kept_shown, shown, shown_from, standing_told, standings_told, taken_below}
 use Rattle.line_step.specs.Lines.{Becomes, Connects, Flows, LineDoes, LineSteps, Moves, Unless, arrived, connecting, cut_in, lied, met, move_told, moved, spoiled, unseen}
 use Rattle.line_step.specs.Runs.{Point, state_behind, told_text}
-use Rattle.line_step.specs.Parts.{IsPlay, IsScriptRun, Part, count_behind, cut_where, entry_where, exit_where, parts_of, script_parts, where_may}
+use Rattle.line_step.specs.Parts.{Part}
 use Rattle.step_rules.proofs.Once.{AreAlike, IsDry, OneMeaning, StepsOnce, desk-same, steps-bytes, steps-dry}
-use Rattle.line_step.specs.Requests.{Request, added_told, may_get, request_of}
+use Rattle.line_step.specs.Requests.{Request, added_told, may_get}
 use Rattle.line_step.specs.Requests as requests
 
 -- ---- lines of machines that are alike
@@ -475,56 +474,7 @@ line-once law number request s after t after' told other alike counted one two =
 pub record IsSteady (part : Part) : Type 0 where
   pub same : (s t : LineState) → LinesAlike s t → part.line t ≡ part.line s
 
-cut-steady : (gap : ℕ) (s t : LineState) → LinesAlike s t → cut_where gap t ≡ cut_where gap s
-cut-steady gap s t alike = ap (λ (may : May). where_may may (lines.Cut gap)) (ap (may_cut gap) alike.same ∙ cut-alike gap s t.machines alike.machines)
-
-notice-steady : (machine : ℕ) (side : Side) (s t : LineState) → LinesAlike s t → where_may (may_notice machine side t) (lines.Notice machine side) ≡ where_may (may_notice machine side s) (lines.Notice machine side)
-notice-steady machine side s t alike = ap (λ (may : May). where_may may (lines.Notice machine side)) (ap (may_notice machine side) alike.same ∙ notice-alike machine side s t.machines alike.machines)
-
-parts-steady : (line : ScriptLine) → AllByRecursion IsSteady (parts_of line)
-parts-steady (lines.Stop machine) =
-    let told : IsSteady (record { line = λ s. lines.Stop machine; ends = false }) = record { same = λ s t alike. refl } in
-    let above : IsSteady (record { line = cut_where (machine - 1); ends = false }) = record { same = cut-steady (machine - 1) } in
-    let below : IsSteady (record { line = cut_where machine; ends = false }) = record { same = cut-steady machine } in
-    let entry : IsSteady (record { line = entry_where machine; ends = false }) = record { same = notice-steady machine Entry } in
-    let exit : IsSteady (record { line = exit_where machine; ends = true }) = record { same = notice-steady machine Exit } in
-    (told, (above, (below, (entry, (exit, tt)))))
-parts-steady _ = (record { same = λ s t alike. refl }, tt)
-
-steady-both : (parts others : List Part) → AllByRecursion IsSteady parts → AllByRecursion IsSteady others → AllByRecursion IsSteady (parts ++ others)
-steady-both [] others one two = two
-steady-both (part ∷ parts) others one two = (one.0, steady-both parts others one.1 two)
-
-script-steady : (asked : List ScriptLine) → AllByRecursion IsSteady (script_parts asked)
-script-steady [] = tt
-script-steady (line ∷ asked) = steady-both (parts_of line) (script_parts asked) (parts-steady line) (script-steady asked)
-
 -- A RUN is told of in one text
 pub record RunsOnce (s t : LineState) (points others : List Point) : Type 0 where
   pub alike : LinesAlike (state_behind s points) (state_behind t others)
   pub text : (number : ℕ) → told_text number others ≡ told_text number points
-
-play-once : OneMeaning → (s t : LineState) (parts : List Part) (points others : List Point) → AllByRecursion IsSteady parts → LinesAlike s t → IsPlay s parts points → IsPlay t parts others → RunsOnce s t points others
-play-once law s t [] [] [] steady alike one two = record { alike = alike; text = λ number. refl }
-play-once law s t [] (point ∷ points) others steady alike one two = absurd one
-play-once law s t [] [] (other ∷ others) steady alike one two = absurd two
-play-once law s t (part ∷ parts) [] others steady alike one two = absurd one
-play-once law s t (part ∷ parts) (point ∷ points) [] steady alike one two = absurd two
-play-once law s t (part ∷ parts) (point ∷ points) (other ∷ others) steady alike one two =
-    let counted : t.lines ≡ s.lines = ap (λ (b : LineState). b.lines) alike.same in
-    let as_far : other.after.lines ≡ point.after.lines = two.0.counted ∙ ap (count_behind part.ends) counted ∙ sym one.0.counted in
-    let P : ℕ → Type 0 = λ n. LineSteps (n + 1) (request_of (part.line t)) t other.after other.told in
-    let Q : ScriptLine → Type 0 = λ line. LineSteps (s.lines + 1) (request_of line) t other.after other.told in
-    let same : LineSteps (s.lines + 1) (request_of (part.line s)) t other.after other.told = subst Q (steady.0.same s t alike) (subst P counted two.0.steps) in
-    let first = line-once law (s.lines + 1) (request_of (part.line s)) s point.after t other.after point.told other.told alike as_far one.0.steps same in
-    let later = play-once law point.after other.after parts points others steady.1 first.alike one.1 two.1 in
-    record {
-      alike = later.alike;
-      text = λ number. ap (λ told. flat_map (λ happening. entry number happening) told ++ told_text (other.after.lines + 1) others) first.same
-          ∙ ap (λ n. flat_map (λ happening. entry number happening) point.told ++ told_text (n + 1) others) as_far
-          ∙ ap (λ text. flat_map (λ happening. entry number happening) point.told ++ text) (later.text (point.after.lines + 1));
-    }
-
--- and so is that of a script
-pub script-once : OneMeaning → (s t : LineState) (asked : List ScriptLine) (points others : List Point) → LinesAlike s t → IsScriptRun s asked points → IsScriptRun t asked others → RunsOnce s t points others
-script-once law s t asked points others alike one two = play-once law s t (script_parts asked) points others (script-steady asked) alike one two

@@ -1,38 +1,21 @@
 -- Boards that come to a track: no line of a script lets one come, and how runs go one behind another.
-use Rattle.std.proofs.Common.{◌≡◌, ◌+◌, ◌++◌, ℕ, zero, suc, false, List, [], ◌∷◌, None, append-nil, append_assoc, refl, subst, sym}
+use Rattle.std.proofs.Common.{◌≡◌, ◌+◌, ◌++◌, ℕ, zero, suc, List, [], ◌∷◌, None, append-nil, append_assoc, subst, sym}
 use Rattle.std.specs.Prelude.{take}
-use Rattle.line_script.specs.declared.line.ScriptLine.{ScriptLine}
 use Rattle.line_script.specs.declared.line.ScriptLine.TheVariants as lines
 use Rattle.line_report.specs.declared.happening.Happening.{Happening}
-use Rattle.line_step.specs.Homes.{AreNewcomers, IsHonest, IsNewcomer}
-use Rattle.line_step.specs.Lies.{has_lie}
-use Rattle.line_step.specs.Parts.{Part, lines_played}
-use Rattle.line_step.specs.Requests.{request_of}
+use Rattle.line_step.specs.Homes.{AreNewcomers}
 use Rattle.line_step.specs.Runs.{IsRun, Point, all_told, state_behind}
 use Rattle.line_step.specs.State.{LineState}
-use Rattle.line_step.specs.Tracks.{TrackLine, own_line}
+use Rattle.line_step.specs.Tracks.{TrackLine}
 use Rattle.line_step.proofs.Vouching.{track-vouches}
 
 -- ---- a script
-
-pub script-newcomer : (past : List Happening) (line : ScriptLine) → IsNewcomer past (own_line (request_of line))
-script-newcomer past lines.Blank = tt
-script-newcomer past _ = tt
-
-pub played-newcomers : (past : List Happening) (s : LineState) (parts : List Part) (points : List Point) → AreNewcomers past (lines_played s parts points) points
-played-newcomers past s [] points = tt
-played-newcomers past s (part ∷ parts) [] = tt
-played-newcomers past s (part ∷ parts) (point ∷ points) = (script-newcomer past (part.line s), played-newcomers (past ++ point.told) point.after parts points)
 
 pub newcomers-take : (past : List Happening) (asked : List TrackLine) (points : List Point) (n : ℕ) → AreNewcomers past asked points → AreNewcomers past (take n asked) (take n points)
 newcomers-take past asked points zero all = tt
 newcomers-take past [] points (suc n) all = tt
 newcomers-take past (line ∷ asked) [] (suc n) all = tt
 newcomers-take past (line ∷ asked) (point ∷ points) (suc n) all = (all.0, newcomers-take (past ++ point.told) asked points n all.1)
-
--- the lines of a script tell what isn't so by their lies alone
-pub played-honest : (s : LineState) (parts : List Part) (points : List Point) (n : ℕ) → has_lie (take n points) ≡ false → IsHonest (lines_played s parts points) points n
-played-honest s parts points n told = record { told = told; newcomers = newcomers-take [] (lines_played s parts points) points n (played-newcomers [] s parts points) }
 
 -- ---- one run behind another
 

@@ -1,10 +1,8 @@
 -- Runs one behind another: their lines, their points and what is told of them.
-use Rattle.std.proofs.Common.{◌≡◌, ◌+◌, ◌≤◌, ℕ, List, [], ◌∷◌, ◌++◌, length, refl, sym, ap, subst, ◌∙◌, append_assoc, arith}
-use Rattle.std.specs.List.{flat_map}
+use Rattle.std.proofs.Common.{◌≡◌, ◌+◌, ◌≤◌, List, [], ◌∷◌, ◌++◌, length, refl, ◌∙◌, arith}
 use Rattle.line_step.specs.Tracks.{TrackLine}
-use Rattle.line_report.specs.Texts.{entry}
 use Rattle.line_step.specs.State.{LineState}
-use Rattle.line_step.specs.Runs.{IsRun, IsShort, Point, state_behind, told_text}
+use Rattle.line_step.specs.Runs.{IsRun, IsShort, Point, state_behind}
 use Rattle.line_step.proofs.Counted.{track-counts}
 
 -- the count of lines doesn't fall along a run
@@ -48,10 +46,3 @@ run-append s [] more [] others one two = two
 run-append s [] more (point ∷ points) others one two = absurd one
 run-append s (line ∷ asked) more [] others one two = absurd one
 run-append s (line ∷ asked) more (point ∷ points) others one two = (one.0, run-append point.after asked more points others one.1 two)
-
-pub told-append : (s : LineState) (points others : List Point) → told_text (s.lines + 1) (points ++ others) ≡ told_text (s.lines + 1) points ++ told_text ((state_behind s points).lines + 1) others
-told-append s [] others = refl
-told-append s (point ∷ points) others =
-    let first = flat_map (λ happening. entry (s.lines + 1) happening) point.told in
-    ap (λ t. first ++ t) (told-append point.after points others)
-    ∙ sym (append_assoc first (told_text (point.after.lines + 1) points) (told_text ((state_behind point.after points).lines + 1) others))

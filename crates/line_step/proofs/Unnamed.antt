@@ -38,11 +38,6 @@ use Rattle.node_core.specs.Event.{Event, event_did}
 use Rattle.node_core.specs.Step.{machine_step, plain_step}
 use Rattle.node_core.specs.declared.supervising.Watch.{Watch}
 use Rattle.node_core.specs.Supervising.{
-  Supervision,
-  Supervise,
-  Ask,
-  Answer,
-  supervision_act,
   watch_of,
   with_tells,
 }
@@ -65,12 +60,6 @@ ids_with_tells desk watch made =
     tells_pass (flat_map ids_of_act)
     (λ act told plain same. ap (λ (ids : List ℕ). ids_of_act act ++ ids) same)
     (λ message told. refl) desk watch made
-
-pub supervision_names_none : (desk : Desk) (what : Supervision)
-    → ids_of_act (supervision_act desk what) ≡ []
-supervision_names_none desk (Supervise on) = refl
-supervision_names_none desk (Ask question) = refl
-supervision_names_none desk (Answer query order) = refl
 
 -- ---- an id in the three places
 

@@ -22,7 +22,6 @@ use Rattle.node_core.specs.Supervising.{
   Ask,
   Answer,
   saw_taken,
-  supervises,
   supervision_act,
   tells_behind,
   tells_deed,
@@ -121,7 +120,3 @@ pub supervision-quiet : (desk : Desk) (what : Supervision) → IsQuiet (supervis
 supervision-quiet desk (Supervise on) = tt
 supervision-quiet desk (Ask question) = tt
 supervision-quiet desk (Answer query order) = tt
-
-pub supervises-quiet : (desk : Desk) (what : Supervision) (body : Body)
-    → AreQuiet (supervises desk what body).acts
-supervises-quiet desk what body = (supervision-quiet desk what, tt)

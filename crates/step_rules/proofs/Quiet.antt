@@ -222,11 +222,6 @@ open_with_tells at opened desk watch made =
     (λ act told plain same o. same (open_act at o act))
     (λ message told plain same o. same o) desk watch made opened
 
-pub quiet_with_tells : (at : Side) (desk : Desk) (watch : Watch) (made : List Act)
-    → IsQuiet at made → IsQuiet at (with_tells desk watch made)
-quiet_with_tells at desk watch made quiet opened =
-    open_with_tells at opened desk watch made ∙ quiet opened
-
 -- nor does what it says, and what it is asked
 pub supervision_ends_none : (at : Side) (desk : Desk) (what : Supervision)
     → IsQuiet at (supervision_act desk what ∷ [])

@@ -304,10 +304,6 @@ StandsIf Forecast body = is_standing Exit body ≡ true
 StandsIf (Query barcode) body = is_standing Entry body ≡ true
 StandsIf event body = Unit {0}
 
-calm_act : (at : Side) (o : Bool) (act : Act) → AreSaidOpen at o (act ∷ [])
-    → open_after at o (act ∷ []) ≡ o → IsCalm at o (act ∷ [])
-calm_act at o act said same = record { said = said; same = same }
-
 event_says : (at : Side) (desk : Desk) (event : Event) (body : Body) (o : Bool)
     → OpensIf event at o → StandsIf event body → Least at o body → IsOffClosed at body
     → Speaks at o (event_did desk event body)
