@@ -7,7 +7,7 @@
 #include <unistd.h>
 
 /* The belt, played: it takes a second to move the board out. In a control these are a stop that holds the board, the sensor there,
- * the sensor behind which a board is wholly out, and the drive. */
+ * the sensor that sees a board wholly out, and the drive. */
 static enum { AT_THE_STOP, UNDER_WAY, OUT } board = AT_THE_STOP;
 static int64_t moves_since;
 
@@ -27,7 +27,7 @@ static int is_read(hermes_machine *m, uint32_t what, int64_t now) {
 }
 
 /* What the sensor sees in a cycle, by the rule of the guide for a machine builder: a board that is to begin is held, and let go only
- * behind the reading of its Begun, while its drive is to run. That it left is told when it has left. */
+ * after the reading of its Begun, while its drive is to run. That it left is told when it has left. */
 static void belt(hermes_machine *m, int64_t now) {
     if (board == AT_THE_STOP && is_to_run(m) && is_read(m, HERMES_SAW_BEGUN, now)) {
         if (is_to_run(m)) board = UNDER_WAY, moves_since = now; /* open the stop, switch the drive on */
