@@ -292,7 +292,7 @@ class Play:
 
 
 def read_words():
-    read = argparse.ArgumentParser(usage=__doc__.partition("usage: ")[2])
+    read = argparse.ArgumentParser(prog="two-nodes", usage=__doc__.partition("usage: ")[2])
     for name, kind, value in (("boards", int, 100), ("breaks", float, 0.08), ("panels", float, 0.01), ("faults", float, 0.05),
                               ("seed", int, 1), ("crosses", float, 0.2), ("late", float, 0.0), ("reconnect", float, 0.1), ("keep", str, None),
                               ("node", str, os.path.join(TOP, "crates", "node", "out", "node")),
