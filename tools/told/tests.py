@@ -167,7 +167,7 @@ def test_runs():
         runs(["read"], 0, b"end messages=0 rest=0\n", "nothing was read")
         runs(["read"], 0, b"end messages=0 rest=14\n", "begins with `GET / HTTP/1.1`", b"GET / HTTP/1.1")
         runs(["read"], 0, b"end messages=1 rest=3\n", "the last 3 bytes", b"<Hermes></Hermes><He")
-        runs(["read"], 0, b"end messages=1 rest=1\n", "", b"<Hermes></Hermes>\n")
+        runs(["read"], 0, b"end messages=1 rest=0\n", "", b"<Hermes></Hermes>\n")
         shown = subprocess.run([sys.executable, LINE, "run", good] + program, stdout=open("/dev/full", "wb"), stderr=subprocess.PIPE, check=False)
         must(shown.returncode == 5, f"a full disk: status {shown.returncode}")
     return "as it should be"
