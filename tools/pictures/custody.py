@@ -215,6 +215,11 @@ def is_lost(stay, kind=REPORT):
     return stay.how == LOST and stay.told is None and kind != LOG
 
 
+def line_of_loss(row, stay):
+    """The line at which a record was dropped or let go, and so lost."""
+    return next(line.number for group, word, line in reversed(row.deeds) if group == stay.begins and word in ("drops", "loses"))
+
+
 def line_of_alarm(group, kind):
     """The line that names a bad standing: in a merged log that which `line check` names, the last of its turn."""
     return group.last if kind == MERGED else group.first

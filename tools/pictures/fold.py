@@ -12,7 +12,7 @@ from links import link_of
 
 LEAST_LINES, LEAST_RUN, ROWS = 120, 8, 36
 QUIET = {"machine", "bridge", "lanes", "insert", "hears", "sends", "reads", "opens", "leaves", "starts", "settles", "with", "between", "connects",
-         "tells", "level", "signals", "drive", "move", "go", "mark", "sub", "supervise", "asks", "answered", "shift"}
+         "tells", "level", "signals", "drive", "move", "go", "mark", "sub", "supervise", "asks", "answered", "shift", "show"}
 DEEDS = ("starts", "opens", "leaves", "settles", "returns", "loses", "drops", "refuses")
 # what a line that disturbs is called in a few words
 CALLED = {"cut": "cut", "notices": "closed", "closes": "closed", "breach": "breach", "spoils": "spoiled", "returns": "back", "loses": "let go at the exit",

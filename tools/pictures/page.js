@@ -130,7 +130,7 @@
     if (head) { boards[it.dataset.i] = [head[1], head[2], head[3] || ""].map(function (name) { return name.toLowerCase(); }); }
   });
   // a board by its whole short name or barcode, or by a part of its barcode or id
-  function named(text) {
+  function boardsOf(text) {
     var whole = Object.keys(boards).filter(function (id) { return boards[id][1] === text || boards[id][2] === text; });
     return whole.length ? whole : Object.keys(boards).filter(function (id) {
       return text.length > 2 && (boards[id][2].indexOf(text) >= 0 || boards[id][0].indexOf(text) >= 0);
@@ -138,7 +138,7 @@
   }
   function show() {
     var text = q.value.trim().toLowerCase(), low = parseInt(from.value, 10) || 0, high = parseInt(to.value, 10) || Infinity;
-    var ids = text ? named(text) : [], isFiltered = Boolean(text) || low > 0 || high < Infinity, of = {}, inRange = {};
+    var ids = text ? boardsOf(text) : [], isFiltered = Boolean(text) || low > 0 || high < Infinity, of = {}, inRange = {};
     ids.forEach(function (id) { of[id] = true; });
     found = [];
     lines.forEach(function (it, at) {

@@ -1,10 +1,11 @@
 """One page that stands alone: the custody chart, the sequence chart, and the text, from the bytes of a text."""
 import os
+import textwrap
 from collections import Counter
 from html import escape
 
 import links as meanings
-from custody import Custody, is_alarm, is_lost, line_of_alarm
+from custody import Custody, is_alarm, is_lost, line_of_alarm, line_of_loss
 from custody_chart import CustodyChart
 from fold import Folds
 from forms import LOG, MERGED, MOST_LINES, REPORT, clean, machine_of, read_text
@@ -18,6 +19,8 @@ KINDS = {REPORT: "report of a line", MERGED: "merged log of a line", LOG: "log o
 MOST_NAMED = 30
 # of more records than these the words, and of more parts the chart, are shown when they are asked for
 MOST_WORDS, MOST_STAVES = 12, 6
+# how many characters of a comment fit beside the text
+WIDE_SCRIPT = 54
 
 
 def part(name):
@@ -90,11 +93,6 @@ def sequence_legend():
     )) + "</p>"
 
 
-def lost_line(custody, row):
-    """The line at which a record was dropped or let go."""
-    return next((line.number for group, word, line in reversed(row.deeds) if group == row.stays[-1].begins and word in ("drops", "loses")), 1)
-
-
 def notes(read, custody, messages, given):
     """What a reader has to know first: what isn't known, what isn't drawn, what doesn't agree."""
     said = []
@@ -102,9 +100,9 @@ def notes(read, custody, messages, given):
     if alarms:
         lines = sorted({line_of_alarm(custody.groups[stay.begins], read.kind) for row in alarms for stay in row.stays if is_alarm(stay)})
         said.append(("bad1", f"{many(len(alarms), 'record')} of no standing, or of two, from line {line_links(lines)} on."))
-    lost = [lost_line(custody, row) for row in custody.rows.values() if row.stays and is_lost(row.stays[-1], read.kind)]
+    lost = [line_of_loss(row, stay) for row in custody.rows.values() for stay in row.stays if is_lost(stay, read.kind)]
     if lost:
-        said.append(("bad1", f"{SIGN} {many(len(lost), 'record')} lost: no machine has {'it' if len(lost) == 1 else 'them'} any more, and no hand took the "
+        said.append(("bad1", f"{SIGN} {many(len(lost), 'record')} lost: no machine had {'it' if len(lost) == 1 else 'them'} any more, and no hand took the "
                      f"board{'' if len(lost) == 1 else 's'}: line {line_links(sorted(lost))}."))
     lines = sorted({line.number for row in custody.rows.values() for _, _, line in row.alarms})
     if lines:
@@ -172,18 +170,31 @@ def items(read, sequence, first, last):
 
 def sources(read, given, first, last):
     """Beside the text's lines of a piece: the line of the script that each is of, with the comments before it."""
-    made, before = [], given_before(read, given, first)
-    for line in read.lines[first:last]:
+    made, before, at = [], given_before(read, given, first), first
+    while at < last:
+        line, end = read.lines[at], at + 1
         number = line.group[0] if line.group and line.word is not None else None
         said = given.said(number, before) if number is not None and number != before else None
+        while end < last and said is not None and read.lines[end].group == line.group:
+            end += 1
         before = max(before, number or 0)
-        if said is None:
-            made.append("<li></li>")
-        else:
-            own, note = said
-            text = f"<b>{escape(own)}</b>" + (f" <i>{escape(note)}</i>" if note else "")
-            made.append(f'<li data-l="{line.number}" title="{escape(f"{number}: {own}" + (f" # {note}" if note else ""))}">{text}</li>')
+        made += source_rows(line, number, *said, end - at) if said is not None else ["<li></li>"]
+        at = end
     return f'<ol class="src" aria-label="The script">{"".join(made)}</ol>'
+
+
+def source_rows(line, number, own, note, count):
+    """A line of the script over the rows of what it did: its comment comes under it where there is room."""
+    told = escape(f"{number}: {own}" + (f" # {note}" if note else ""))
+    rows = textwrap.wrap(note, WIDE_SCRIPT)
+    if len(rows) >= count:       # the last row has the rest, and is cut where it is shown
+        rows = rows[:max(count - 2, 0)] + [" ".join(rows[max(count - 2, 0):])]
+    first = f"<b>{escape(own)}</b>"
+    if count == 1 and rows:
+        first, rows = f"{first} <i>{escape(rows[0])}</i>", []
+    made = [f'<li data-l="{line.number}" title="{told}">{first}</li>']
+    made += [f'<li title="{told}"><i>{escape(row)}</i></li>' for row in rows]
+    return made + ["<li></li>"] * (count - len(made))
 
 
 def given_before(read, given, first):
@@ -223,12 +234,14 @@ def all_pieces(read, sequence, pieces, runs, given, short):
     return "".join(made) + ("</details>" if now else "")
 
 
-def ways_in_words(chart, custody, given, short, kind):
+def ways_in_words(chart, custody, folds, given, short, kind):
     """Each record's way in words; of many first those that something happened to."""
+    odd_ids = {span.id for span in folds.spans if not span.is_quiet()}
     said = chart.in_words(given.machines)
     named = lambda id: f"{escape(short[id])}" + (f", {escape(given.boards[id])}" if id in given.boards else "")
     item = lambda id, words: f'<li data-i="{id}"><code>{id}</code> ({named(id)}): {escape(words)}.</li>'
-    odd = [it for it in said if any(is_lost(stay, kind) or is_alarm(stay) for stay in custody.rows[it[0]].stays) or custody.rows[it[0]].alarms]
+    is_odd = lambda row: row.id in odd_ids or row.alarms or any(is_lost(stay, kind) or is_alarm(stay) for stay in row.stays)
+    odd = [it for it in said if is_odd(custody.rows[it[0]])]
     if len(said) <= MOST_WORDS:
         return f'<ol id="ways" class="words">{"".join(item(*it) for it in said) or "<li>none</li>"}</ol>'
     first = f'<ol class="words">{"".join(item(*it) for it in odd[:MOST_WORDS * 4])}</ol>' if odd else ""
@@ -269,6 +282,9 @@ def page_of(data, title=None, kind=None, given=None):
     zoom = min(1.0, 1040 / (text_wide + sequence.columns.width))
     says = f"<style>/*<![CDATA[*/{part('page.css')}@media print{{.seq{{zoom:{max(zoom, 0.3):.2f}}}.stave{{zoom:.86}}}}/*]]>*/</style>"
     table = Ways(read, custody, folds, short, sequence.columns, given).draw() if read.kind != LOG else ""
+    words = f'<h2 id="words">In words</h2>{ways_in_words(chart, custody, folds, given, short, read.kind)}'
+    both = [words, f'<h2 id="boards">Each board</h2><p class="soft">Under a machine: the {"line of the text" if read.kind == MERGED else what} from which on it keeps '
+            f'the record. \u2192 an undisturbed handover, {SIGN} a disturbed one.</p>{table}' if table else ""]
     drawn = "".join(staves) or '<p class="soft">No record comes up in this text.</p>'
     if len(staves) > MOST_STAVES:
         drawn = f'<details class="staves"><summary>The chart, in {len(staves)} parts</summary>{drawn}</details>'
@@ -283,9 +299,7 @@ def page_of(data, title=None, kind=None, given=None):
         '<nav aria-label="Parts"><a href="#words">In words</a> \u00b7 ', '<a href="#boards">Each board</a> \u00b7 ' if table else "",
         '<a href="#custody">Who has each record</a> \u00b7 <a href="#sequence">What was said and done</a></nav>',
         filter_bar(read), notes(read, custody, messages, given),
-        f'<h2 id="words">In words</h2>{ways_in_words(chart, custody, given, short, read.kind)}',
-        f'<h2 id="boards">Each board</h2><p class="soft">Under a machine: the {"line of the text" if read.kind == MERGED else what} from which on it keeps the record. '
-        f'\u2192 an undisturbed handover, {SIGN} a disturbed one.</p>{table}' if table else "",
+        *(reversed(both) if len(custody.rows) > MOST_WORDS else both),
         f'<h2 id="custody">Who has each record</h2><p class="soft">{columns}; what is drawn in it is what holds after it. '
         f"A board m#c is the c-th whose id machine m made; hover it for the id.{places_said(sequence.columns)}</p>",
         custody_legend(), drawn,

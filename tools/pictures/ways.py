@@ -4,7 +4,7 @@ A line is named by its number in the script, by its turn, or in a merged log by 
 """
 from html import escape
 
-from custody import BETWEEN, BY_HAND, GONE, LOST, REMOVED, REPLACED, WITH, is_alarm, is_lost
+from custody import BETWEEN, BY_HAND, GONE, REMOVED, REPLACED, WITH, is_alarm, is_lost, line_of_loss
 from forms import MERGED, beside, lane_of
 from links import place_order
 
@@ -40,6 +40,19 @@ class Ways:
                 words.update((word, number) for word, number in span.why.items() if word not in words)
         return words
 
+    def lost_at(self, row, gap):
+        """The line at which a board's record was lost in a handover at a gap, or None."""
+        for before, stay in zip(row.stays, row.stays[1:]):
+            if is_lost(stay, self.read.kind) and before.standing == (BETWEEN, gap):
+                return line_of_loss(row, stay)
+        return None
+
+    def in_short(self, words):
+        """What disturbed first, and how it ended: of a cut nobody needs to hear that it closed connections and lost messages."""
+        hands = [word for word in words if word.endswith(" by hand")]
+        told = [word for word in words if word not in ("closed", "message lost") and (not hands or word not in ("dropped", "let go at the exit"))] or list(words)
+        return f"{told[0]}, {told[-1]}" if len(told) > 1 else told[0]
+
     def cells(self, row):
         """What is in a row's cells, by the place or the gap."""
         made = {}
@@ -53,10 +66,12 @@ class Ways:
             elif stay.standing[0] == BETWEEN and stay.standing[1]:
                 made.setdefault(("gap", stay.standing[1]), [])
         for gap in [key[1] for key in made if key[0] == "gap"]:
-            words = self.disturbed(row, gap)
-            if words:
+            words, lost = self.disturbed(row, gap), self.lost_at(row, gap)
+            if lost:
+                made["gap", gap] = [self.go(lost, f"{SIGN} LOST at {self.where(lost)}", "no machine had its record any more, and no hand took the board", "bad")]
+            elif words:
                 number = min(words.values())
-                made["gap", gap] = [self.go(number, f"{SIGN} {' '.join(words)}", f"disturbed from {self.where(number)} on: {', '.join(words)}", "odd")]
+                made["gap", gap] = [self.go(number, f"{SIGN} {self.in_short(words)}", f"disturbed from {self.where(number)} on: {', '.join(words)}", "odd")]
             else:
                 made["gap", gap] = ["\u2192"]
         return made
@@ -68,8 +83,7 @@ class Ways:
         if is_alarm(stay):
             return self.go(line, f"{SIGN} two or no standing"), "bad"
         if is_lost(stay, self.read.kind):
-            last = self.custody.groups[stay.begins].last
-            deed = next((it.number for group, word, it in reversed(row.deeds) if group == stay.begins and word in ("drops", "loses")), last)
+            deed = line_of_loss(row, stay)
             return self.go(deed, f"{SIGN} LOST at {self.where(deed)}", "no machine has its record, and no hand took the board"), "bad"
         if stay.standing == (GONE,):
             return self.go(line, f"{ENDED.get(stay.how, 'gone')} at {self.where(line)}"), "went"
@@ -88,8 +102,8 @@ class Ways:
             parts.append(f'<td class="{name}">{" ".join(own)}</td>' if name else "<td></td>")
             if beside(place, 1) in self.columns.left:
                 gap = cells.get(("gap", place))
-                is_odd = gap and gap[0] != "\u2192"
-                parts.append(f'<td class="{"odd" if is_odd else "g"}">{gap[0]}</td>' if gap else "<td></td>")
+                name = "g" if gap and gap[0] == "\u2192" else "bad" if gap and 'class="bad"' in gap[0] else "odd"
+                parts.append(f'<td class="{name}">{gap[0]}</td>' if gap else "<td></td>")
         now, name = self.now(row)
         barcode = self.given.boards.get(row.id)
         head = f"{escape(self.short[row.id])}" + (f" <b>{escape(barcode)}</b>" if barcode else "")
