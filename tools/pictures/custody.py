@@ -1,7 +1,7 @@
 """Who has each board's record, line by line: the marks that the deeds of a text leave, and what it tells of standings.
 
 docs/PROFILE.md, 'Standings and the ledger', has the rules. A group is what is done at once: the lines of one line of
-the script, or of one turn. What is drawn of a record is what holds behind a group.
+the script, or of one turn. What is drawn of a record is what holds after a group.
 """
 from dataclasses import dataclass, field
 

@@ -8,7 +8,7 @@ from forms import LOG, MERGED, beside
 from links import place_order
 
 COLUMNS, WIDE, LABEL, LABEL_NAMED = 20, 44, 90, 140
-# of several lanes, where `1.2+2.2` stands in a column
+# of several lanes, where `1.2+2.2` is in a column
 LANE_COLUMNS, LANE_WIDE = 16, 56
 MOST_UNCHANGED = 12
 TOP = 22
@@ -202,7 +202,7 @@ class CustodyChart:
                 f'{self.plate(text, x, top) if name == "halo" else ""}<text class="bart {name}" x="{x + 4}" y="{top + 11.5}">{escape(text)}</text></g>')
 
     def plate(self, text, x, top):
-        """What a text stands on where the bar is striped."""
+        """What is under a text where the bar is striped."""
         return f'<rect class="plate" x="{x + 1.5}" y="{top + 2}" width="{min(6 * len(text) + 6, self.wide - 3)}" height="12" rx="2"/>'
 
     def in_words(self, names=None):

@@ -1,4 +1,4 @@
-"""One page that stands alone: the custody chart, the sequence chart, and the text, from the bytes of a text."""
+"""One page that needs nothing else: the custody chart, the sequence chart, and the text, from the bytes of a text."""
 import os
 import textwrap
 from collections import Counter
@@ -24,7 +24,7 @@ WIDE_SCRIPT = 54
 
 
 def part(name):
-    """A part of the page that stands in a file of its own."""
+    """A part of the page that is a file of its own."""
     with open(os.path.join(HERE, name), encoding="utf-8") as file:
         return file.read()
 
@@ -72,7 +72,7 @@ def custody_legend():
         sample('<path class="end" d="M2 1v14"/>', "the last mark went: taken out or replaced", 12),
         sample(f'<rect class="bar alarm" x="1" y="1" width="46" height="14"/><text class="bart onalarm" x="4" y="12">{SIGN} lost</text>',
                "dropped or let go, and no hand took the board", 48),
-        sample('<path class="rule" d="M4 0v16M8 0v16"/>', "from here on nobody vouches", 14),
+        sample('<path class="rule" d="M4 0v16M8 0v16"/>', "from here on nothing is guaranteed", 14),
     )) + "</p>"
 
 
@@ -116,7 +116,7 @@ def notes(read, custody, messages, given):
         said.append(("warn", f"What the report tells of standings isn't what its deeds give, at line {line_links(lines)}."))
     if read.unvouched is not None:
         line = read.lines[read.unvouched - 1].group[0]
-        said.append(("warn", f'From <a href="#L{read.unvouched}">line {line} of the script</a> on nobody vouches: it told what was not so.'))
+        said.append(("warn", f'From <a href="#L{read.unvouched}">line {line} of the script</a> on nothing is guaranteed: that line gave a false sensor reading.'))
     backward = [message.heard.number for message in messages if message.fate == meanings.BACKWARD]
     if backward:
         said.append(("warn", f"Heard before it was sent, in the order of this text: line {line_links(backward)}."))
@@ -124,9 +124,9 @@ def notes(read, custody, messages, given):
         said.append(("warn", f"{lines_said(len(read.unknown))} of the text {'is' if len(read.unknown) == 1 else 'are'} not known and only shown as text: "
                      + line_links(line.number for line in read.unknown) + "."))
     if read.count > len(read.lines):
-        said.append(("warn", f"The text has {read.count} lines. The first {MOST_LINES} are drawn, and what comes behind them is not."))
+        said.append(("warn", f"The text has {read.count} lines. The first {MOST_LINES} are drawn, and what comes after them is not."))
     if read.cut_short:
-        said.append(("note", f"{lines_said(read.cut_short)} too long to be shown whole; how much more there is stands at the end of each."))
+        said.append(("note", f"{lines_said(read.cut_short)} too long to be shown whole; how much more there is, is at the end of each."))
     if read.strange:
         said.append(("note", f"{read.strange} characters that a page can't have are shown by others."))
     if read.kind == REPORT and read.last is None:

@@ -56,7 +56,7 @@ def places_of(read, messages):
 
 
 class Columns:
-    """Where each machine and each gap stands."""
+    """Where each machine and each gap is."""
 
     def __init__(self, read, messages):
         self.places = places_of(read, messages)
@@ -656,7 +656,7 @@ class Sequence:
             line = self.read.lines[self.read.unvouched - 1]
             y = self.local(line)
             self.put("over", line, f'<path class="rule" d="M0 {y - 2}H{number_text(self.columns.width)}M0 {y + 2}H{number_text(self.columns.width)}"/>')
-            self.label(line, self.columns.width / 2, "from here on nobody vouches: what was told was not so", "middle", "t strong halo2")
+            self.label(line, self.columns.width / 2, "from here on nothing is guaranteed: a false sensor reading", "middle", "t strong halo2")
         return self.pieces
 
     def heads(self):

@@ -609,7 +609,7 @@ def test_no_order(_):
     # each end says that it heard the other before it spoke
     refused_merge("there is no order: log 1 line 1", whole(["1 hears 7 out ServiceDescription", "2 sends 7 out ServiceDescription"]),
                   whole(["1 connects 8", "2 hears 8 in ServiceDescription", "3 sends 8 in ServiceDescription"]))
-    refused_merge("log 1 line 2: is of turn 1, behind one of turn 2", "2 hold 7 in\n1 go 7 in\n")
+    refused_merge("log 1 line 2: is of turn 1, after one of turn 2", "2 hold 7 in\n1 go 7 in\n")
     refused_merge("log 1 line 1: has no turn's number in front", "hold 7 in\n")
     refused_merge("log 1 line 2: is of another machine than 7", "1 hold 7 in\n2 hold 8 out\n")
     # a turn in which a message is heard and its answer's answer too has to be parted
