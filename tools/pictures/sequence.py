@@ -570,6 +570,9 @@ class Sequence:
         width = min(right - left - 12, 150)
         x = (left + right) / 2 - width / 2
         self.put("over", line, f'<rect class="chip{"" if fill else " gone"}" x="{number_text(x)}" y="{self.local(line) - 7.5}" width="{number_text(width)}" height="15" rx="4" {fill}/>')
+        if "url(" in fill:       # stripes: the text has a ground of its own
+            plate = min(width - 4, 6 * len(text) + 8)
+            self.put("over", line, f'<rect class="plate" x="{number_text((left + right - plate) / 2)}" y="{self.local(line) - 6}" width="{number_text(plate)}" height="12" rx="3"/>')
         self.label(line, (left + right) / 2, text, "middle", name)
 
     def on_with(self, line):

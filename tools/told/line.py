@@ -19,7 +19,7 @@ sys.dont_write_bytecode = True
 sys.path.insert(0, os.path.dirname(os.path.abspath(__file__)))
 
 from forms import TOP  # noqa: E402
-from hints import Watch, many, read_rows, said_of  # noqa: E402
+from hints import Watch, many, quoted, read_rows, said_of  # noqa: E402
 
 PIECE = 1 << 16
 MOST_LINE = 4_100
@@ -117,9 +117,25 @@ def write_all(piece):
         view = view[os.write(1, view):]
 
 
+def said_of_no(source, number, why):
+    """Which line of a log `line check` names, and what it may be instead."""
+    line = source.line(number)
+    if line is None:
+        return []
+    words, said = line.split(), [f"line {number} of the log is {quoted(line)}: {why}"]
+    if why == "form" and len(words) > 1 and words[0].isdigit() and not words[1].isdigit():
+        said.append("    A line of a merged log is `machine turn text`. This may be the log of one node: bin/merge-logs makes one of several.")
+    elif why == "form" and (not words or words[0].startswith(b"#")):
+        said.append("    A log has no empty lines and no comments.")
+    return said
+
+
 def said_of_check(source, out):
-    """What there is to say of a log of which `line check` says yes."""
-    if not out.startswith(b"yes "):
+    """What there is to say of a log, by what `line check` answers."""
+    words = out.decode("latin-1").rstrip("\n").split(" ", 2)
+    if words[0] == "no" and len(words) == 3 and words[1].isdigit():
+        return said_of_no(source, int(words[1]), words[2])
+    if words[0] != "yes":
         return []
     if out.startswith(b"yes lines=0 "):
         return ["the log has no line, so nothing was checked"]
@@ -136,7 +152,9 @@ def said_of_read(source, out):
     """What there is to say of a stream in which `line read` found no message, or whose end is none."""
     last = out.rstrip(b"\n").rpartition(b"\n")[2]
     words = dict(word.split(b"=", 1) for word in last.split(b" ")[1:] if b"=" in word) if last.startswith(b"end ") else {}
-    messages, rest = int(words.get(b"messages", b"1")), int(words.get(b"rest", b"0"))
+    if b"rest" not in words:     # the last line says itself what is wrong
+        return []
+    messages, rest = int(words[b"messages"]), int(words[b"rest"])
     said = []
     front = source.front()
     if front[:2] in (b"\xff\xfe", b"\xfe\xff"):

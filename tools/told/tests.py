@@ -132,10 +132,10 @@ def test_said():
 PROGRAM = """import sys
 data = sys.stdin.buffer.read()
 out = {"run": b"1 machine 1 4\\n2 no: no gap\\nend lines=2 boards=0 opened=0 settled=0\\n" if b"begin" in data else b"refused 1: unknown word\\n",
-       "check": b"yes lines=%d boards=0\\n" % data.count(b"\\n"), "read": b"end messages=%d rest=%d\\n" % (data.count(b"</Hermes>"), len(data.rpartition(b"</Hermes>")[2].strip()))}
+       "check": b"no 2 form\\n" if b"\\n4 " in data else b"yes lines=%d boards=0\\n" % data.count(b"\\n"), "read": b"end messages=%d rest=%d\\n" % (data.count(b"</Hermes>"), len(data.rpartition(b"</Hermes>")[2].strip()))}
 sys.stdout.buffer.write(out[sys.argv[1]])
 sys.stdout.flush()
-sys.exit(3 if b"refused" in out[sys.argv[1]] and sys.argv[1] == "run" else 0)
+sys.exit(8 if out["check"][:2] == b"no" else 3 if b"refused" in out[sys.argv[1]] and sys.argv[1] == "run" else 0)
 """
 
 
@@ -164,6 +164,7 @@ def test_runs():
         runs(["check"], 0, b"yes lines=0 boards=0\n", "nothing was checked")
         runs(["check"], 0, b"yes lines=1 boards=0\n", "none of its 1 line tells", b"1 4 lEAvEs out 7\n")
         runs(["check"], 0, b"yes lines=1 boards=0\n", "", b"1 4 leaves out 7\n")
+        runs(["check"], 8, b"no 2 form\n", "line 2 of the log is `4 leaves out 7`: form\n    A line of a merged log is", b"1 4 opens out 7\n4 leaves out 7\n")
         runs(["read"], 0, b"end messages=0 rest=0\n", "nothing was read")
         runs(["read"], 0, b"end messages=0 rest=14\n", "begins with `GET / HTTP/1.1`", b"GET / HTTP/1.1")
         runs(["read"], 0, b"end messages=1 rest=3\n", "the last 3 bytes", b"<Hermes></Hermes><He")
