@@ -161,7 +161,10 @@
     });
     all("details.staves").forEach(function (it) { if (isFiltered) { it.open = true; } });
     all(".ways tr[data-i], .words li[data-i], #ways li[data-i]").forEach(function (it) { it.classList.toggle("none", ids.length > 0 && !of[it.dataset.i]); });
-    all("details.words").forEach(function (it) { if (ids.length) { it.open = true; } });
+    all("details.words").forEach(function (it) {
+      if (ids.length) { it.open = true; }
+      it.classList.toggle("none", ids.length > 0 && !it.querySelector("li:not(.none)"));
+    });
     all(".stave").forEach(function (stave) {
       var has = stave.dataset.c.split(" ").some(function (first) { return inRange[first]; });
       var rows = all(".row", stave);
