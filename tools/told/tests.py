@@ -46,6 +46,18 @@ def texts_in_specs(crate, file, *functions):
     return {text.strip() for text in re.findall(rf'^(?:{name}) .*= codes "([^"]+)"', text_of("crates", crate, "specs", file), re.M)}
 
 
+def rows_of_page():
+    """The rows of the page's two tables for scripts."""
+    tables = text_of("docs", "guide", "refusals.md").partition("\n## `refused")[2].partition("\n## `line read`")[0]
+    return re.findall(r"^\| `.*$", tables, re.M)
+
+
+def take_rows():
+    """Writes the rows of the page to tools/told/rows.md."""
+    with open(ROWS, "w", encoding="utf-8") as file:
+        file.write("\n".join(rows_of_page()) + "\n")
+
+
 def test_rows():
     """The table has a row for each text that a report can give, and it is that of the page."""
     rows = read_rows()
@@ -58,10 +70,8 @@ def test_rows():
         return f"{len(whys) + len(noes)} texts; there is no docs/guide/refusals.md to compare with"
     with open(ROWS, encoding="utf-8") as file:
         mine = file.read().splitlines()
-    page = text_of("docs", "guide", "refusals.md")
-    tables = page.partition("\n## `refused")[2].partition("\n## `line read`")[0]
-    theirs = re.findall(r"^\| `.*$", tables, re.M)
-    must(mine == theirs, f"tools/told/rows.md isn't the tables of docs/guide/refusals.md: {sorted(set(mine) ^ set(theirs))[:2]}")
+    other = sorted(set(mine) ^ set(rows_of_page()))
+    must(mine == rows_of_page(), f"tools/told/rows.md isn't the tables of docs/guide/refusals.md; bin/test-told --take takes them: {other[:2]}")
     return f"{len(mine)} rows, {len(whys) + len(noes)} texts"
 
 
@@ -94,7 +104,7 @@ def test_refusals():
 # a script, its report, and what is said of it
 SAID = (
     ("machine 4\n# \u00d6fen\n", "1 machine 1 4\nrefused 2: not text\n", "line 2 of the script is refused, `# \u00d6fen`: not text", "`\u00d6` (0xC3 0x96), in a comment"),
-    ("machine 4 # the loader\n", "refused 1: wrong count\n", "`machine c [used u]`: after `machine` 1 or 3 words come, and here are 4", "Give a comment its own line"),
+    ("machine 4 # the loader\n", "refused 1: wrong count\n", "`machine c [used u]`: after `machine` 1 or 3 words come, and here are 4", "ive a comment its own line"),
     ("wait 5\n", "refused 1: unknown word\n", "Do you mean `tick m`?", "no form's"),
     ("MACHINE 4\n", "refused 1: unknown word\n", "Do you mean `machine c [used u]`?"),
     ("machine 1025\n", "refused 1: bad number\n", "`1025` should be c", "1 to 1024"),
@@ -102,9 +112,9 @@ SAID = (
     ("remove 1 PCB-1\n", "refused 1: bad id\n", "`PCB-1` should be the id of a board"),
     ("lie 1 in Left\n", "refused 1: bad word\n", "`Begun`, `Full`, `Back` or `Taken`, at `in`"),
     ("machine 4\nbegin 1\nleft 1\n", "1 machine 1 4\n2 no: no gap\n3 no: no gap\nend lines=3 boards=0 opened=0 settled=0\n",
-     "2 lines of the script answered `no:`, the first is line 2 of the script, `begin 1`: no gap", "There is no gap k."),
+     "2 lines of the script answered `no:`, the first is line 2 of the script, `begin 1`: no gap", "There is no gap k"),
     ("machine 4\nsense 1\nbegin 1\n", "1 machine 1 4\n2 no: nothing to read\n3 no: no gap\nend lines=3 boards=0 opened=0 settled=0\n", "Others", "no gap 1"),
-    ("answer 1 1 X\n", "1 no: answered no: Y\nend lines=1 boards=0 opened=0 settled=0\n", "The first answer stays."),
+    ("answer 1 1 X\n", "1 no: answered no: Y\nend lines=1 boards=0 opened=0 settled=0\n", "The first answer stays"),
     ("machine 4\n", "1 machine 1 4\nend lines=1 boards=0 opened=0 settled=0\n"),
     ("machine 4\n", "1 breach 1 in x no: y\nend lines=1 boards=0 opened=0 settled=0\n"),
 )
