@@ -1,6 +1,6 @@
 """What to do about a `no:` and a `refused` of a report: the rows of the table in docs/guide/refusals.md.
 
-The rows are in rows.md, and `bin/test-told` compares them with the page. A `Watch` takes a report as it comes and
+The rows are in rows.txt, and `bin/test-told` compares them with the page. A `Watch` takes a report as it comes and
 keeps what there is to say of it.
 """
 import os
@@ -8,7 +8,7 @@ import re
 
 from forms import read_forms, why_said
 
-ROWS = os.path.join(os.path.dirname(os.path.abspath(__file__)), "rows.md")
+ROWS = os.path.join(os.path.dirname(os.path.abspath(__file__)), "rows.txt")
 NO_LINE = re.compile(rb"^([0-9]+) no: (.*)$", re.M)
 REFUSED = re.compile(rb"refused ([0-9]+): (.+)")
 MOST_QUOTED = 60

@@ -53,7 +53,7 @@ def rows_of_page():
 
 
 def take_rows():
-    """Writes the rows of the page to tools/told/rows.md."""
+    """Writes the rows of the page to tools/told/rows.txt."""
     with open(ROWS, "w", encoding="utf-8") as file:
         file.write("\n".join(rows_of_page()) + "\n")
 
@@ -71,7 +71,7 @@ def test_rows():
     with open(ROWS, encoding="utf-8") as file:
         mine = file.read().splitlines()
     other = sorted(set(mine) ^ set(rows_of_page()))
-    must(mine == rows_of_page(), f"tools/told/rows.md isn't the tables of docs/guide/refusals.md; bin/test-told --take takes them: {other[:2]}")
+    must(mine == rows_of_page(), f"tools/told/rows.txt isn't the tables of docs/guide/refusals.md; bin/test-told --take takes them: {other[:2]}")
     return f"{len(mine)} rows, {len(whys) + len(noes)} texts"
 
 
