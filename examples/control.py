@@ -1,7 +1,7 @@
 """A model of two neighbouring conveyors with their controls, which speak to their nodes' panels as the gateway of a PLC would.
 
 `Control` is what to look at: it obeys the rule for a control (docs/guide/machine-builder.md, 'The rule for a control'). It tells each
-event that its sensors see once and in order; a board is let go, or taken across, only behind the reading. `Gap` is
+event that its sensors see once and in order; a board is let go, or taken across, only after the reading. `Gap` is
 the place between two conveyors with the sensors of both, `Panel` a connection to a panel, and `Loop` the clock.
 `examples/two-nodes --boards 100` plays them.
 
@@ -19,7 +19,7 @@ class Loop:
     def __init__(self):
         self.timers, self.number = [], 0
         self.ready = selectors.DefaultSelector()
-        self.before_acting = lambda: None   # called behind all reading, before what was read is acted on
+        self.before_acting = lambda: None   # called after all reading, before what was read is acted on
 
     def after(self, seconds, call):
         self.number += 1
@@ -123,8 +123,8 @@ class Control:
     def __init__(self, panel, loop, reconnect=1.0, calls=False):
         self.panel, self.loop, self.reconnect = panel, loop, reconnect
         self.drive = {"in": False, "out": False}
-        self.unread = []               # side, event, and what is to be done behind the reading
-        self.greets = 2                # a new connection is told both drives first, and is used behind them
+        self.unread = []               # side, event, and what is to be done after the reading
+        self.greets = 2                # a new connection is told both drives first, and is used after them
         self.changes = lambda: None    # called where a drive changed
         self.wanted, self.inserted, self.shown, self.failed = [], [], [], set()
         self.shown_in = None           # the turn of what was shown last
@@ -147,7 +147,7 @@ class Control:
 
     # telling
     def sees(self, side, event, then=None):
-        """A sensor saw something. `then` is called behind its reading, with whether the drive was on."""
+        """A sensor saw something. `then` is called after its reading, with whether the drive was on."""
         self.unread.append((side, event, then))
         self.say(f"sense {side} {event}")
 
@@ -195,7 +195,7 @@ class Control:
         if then is not None:
             then(is_on)
 
-    # a broken panel: what was read, though its `reads` was lost on the way, stands in the log
+    # a broken panel: what was read, though its `reads` was lost on the way, is in the log
     def came(self):
         self.greets, self.is_linked = 2, False
 
@@ -245,7 +245,7 @@ class Gap:
         upper.changes = self.asks
         self.moves()
 
-    # the exit: a board is let go behind the reading
+    # the exit: a board is let go after the reading
     def asks(self):
         if not self.upper.drive["out"] or not self.above or self.board is not None or self.asked:
             return
@@ -269,7 +269,7 @@ class Gap:
         self.asked = False
         self.asks()
 
-    # the entry: a board is taken across behind the reading
+    # the entry: a board is taken across after the reading
     def takes(self, visit, is_on):
         if self.is_seen and visit == self.visit:
             self.may_take = is_on

@@ -4,8 +4,8 @@
 usage: examples/two-nodes --boards N [options], which builds the programs first and then calls this
 
   --boards N      how many boards go through (100)
-  --breaks P      the part of messages and panel lines behind which the connection between the nodes breaks (0.08)
-  --panels P      and the part behind which the connection of a panel breaks (0.01)
+  --breaks P      the part of messages and panel lines after which the connection between the nodes breaks (0.08)
+  --panels P      and the part after which the connection of a panel breaks (0.01)
   --faults P      the part of handovers in which a drive fails (0.05)
   --seed N        of the random numbers (1)
   --crosses S     seconds that a board takes between the conveyors (0.2)
@@ -20,7 +20,7 @@ usage: examples/two-nodes --boards N [options], which builds the programs first 
 The play is one process: it reads what the nodes logged before it passes on what they said. So the order in which it
 reads log lines keeps each cause before its effect, and is the merged log that `line check` judges.
 
-It ends with 0 where each board and each record stands once, in order, and `line check` says yes, and with 1 else.
+It ends with 0 where each board and each record is there once, in order, and `line check` says yes, and with 1 else.
 """
 import argparse
 import collections
@@ -199,7 +199,7 @@ class Play:
         self.loop.after(0.02, self.feeds)
 
     def moment(self):
-        """A message was passed on, or a panel said something: behind it something may break."""
+        """A message was passed on, or a panel said something: after it something may break."""
         if not self.is_random:
             return
         later = self.chance.uniform(0.0, self.words.crosses)
@@ -225,7 +225,7 @@ class Play:
         return self.loop.run(self.is_done, 60 + 30 * self.words.boards)
 
     def story(self):
-        """The loader's gateway stalls behind the insertion; the connection breaks when the board has left, or later."""
+        """The loader's gateway stalls after the insertion; the connection breaks when the board has left, or later."""
         above = self.above
         self.feeds()
         self.loop.run(lambda: above.inserted or self.ended(), 120)
@@ -292,7 +292,7 @@ class Play:
 
 
 def read_words():
-    read = argparse.ArgumentParser(usage=__doc__.partition("usage: ")[2])
+    read = argparse.ArgumentParser(prog="two-nodes", usage=__doc__.partition("usage: ")[2])
     for name, kind, value in (("boards", int, 100), ("breaks", float, 0.08), ("panels", float, 0.01), ("faults", float, 0.05),
                               ("seed", int, 1), ("crosses", float, 0.2), ("late", float, 0.0), ("reconnect", float, 0.1), ("keep", str, None),
                               ("node", str, os.path.join(TOP, "crates", "node", "out", "node")),

@@ -1,13 +1,14 @@
 """Who has each board's record, line by line: the marks that the deeds of a text leave, and what it tells of standings.
 
 docs/PROFILE.md, 'Standings and the ledger', has the rules. A group is what is done at once: the lines of one line of
-the script, or of one turn. What is drawn of a record is what holds behind a group.
+the script, or of one turn. What is drawn of a record is what holds after a group.
 """
 from dataclasses import dataclass, field
 
-from forms import LOG, REPORT, beside
+from forms import LOG, MERGED, REPORT, beside, machine_of
 
 KEEPS, OUT, IN = "keeps", "outlet", "intake"
+REMOVED, REPLACED, BY_HAND, LOST = "removed", "replaced", "by hand", "lost"
 WITH, BETWEEN, NONE, GONE = "with", "between", "no standing", "gone"
 DEEDS = ("insert", "remove", "replace", "shift", "opens", "returns", "leaves", "loses", "starts", "settles", "drops")
 NOTES = ("mark", "sub", "refuses")
@@ -30,6 +31,7 @@ class Stay:
     marks: frozenset
     standing: tuple
     told: tuple = None           # what the report tells, where it isn't what the deeds give
+    how: str = None              # how the last mark went, where none is left
     ends: int = None             # the first group where it is so no more
 
 
@@ -124,11 +126,35 @@ class Ledger:
         return done
 
 
+def gap_of(line):
+    """The gap of a deed or of a sensor's event, by the machine above it."""
+    return line.gap or (line.place if line.side == "out" else beside(line.place, -1))
+
+
+class Hands:
+    """Whether the board in a gap was taken out by hand since its handover began: by a move, or as a sensor saw."""
+
+    def __init__(self):
+        self.taken = set()
+
+    def do(self, line):
+        if line.word in ("starts", "opens") or line.word == "move" and line.rest[0] == "begin":
+            self.taken.discard(gap_of(line))
+        elif line.word == "move" and line.rest[0] == "take" or line.word == "reads" and line.rest[0] == "Taken":
+            self.taken.add(gap_of(line))
+
+    def how(self, line):
+        """How a record went, by the deed that took its last mark."""
+        if line.word in ("drops", "loses"):
+            return BY_HAND if gap_of(line) in self.taken else LOST
+        return REPLACED if line.word == "replace" else REMOVED
+
+
 class Custody:
     """The rows of a text, in the order in which its ids come up."""
 
     def __init__(self, read):
-        self.groups, self.rows = groups_of(read), {}
+        self.groups, self.rows, self.hands = groups_of(read), {}, Hands()
         self.ledger, self.told = Ledger(read.kind), {}
         self.differing = []      # groups at which what is told isn't what the deeds give
         is_whole = read.kind != REPORT or read.last is not None
@@ -148,6 +174,7 @@ class Custody:
         touched = {}
         for number in range(group.first, group.last + 1):
             line = read.lines[number - 1]
+            self.hands.do(line)
             if line.word in DEEDS:
                 for id, why in self.ledger.do(line):
                     touched[id] = True
@@ -173,12 +200,29 @@ class Custody:
             self.differing.append(group.number)
         if row.stays and (row.stays[-1].marks, row.stays[-1].standing, row.stays[-1].told) == (marks, standing, told):
             return
-        row.stays.append(Stay(group.number, marks, standing, told))
+        last = next((line for number, word, line in reversed(row.deeds) if number == group.number and word in DEEDS), None)
+        how = self.hands.how(last) if standing == (GONE,) and last is not None else None
+        row.stays.append(Stay(group.number, marks, standing, told, how=how))
 
 
 def is_alarm(stay):
     """Whether a stay has no standing, or two: none by its marks, or another than the report tells."""
     return stay.standing == (NONE,) or stay.told is not None
+
+
+def is_lost(stay, kind=REPORT):
+    """Whether a record went by `drops` or `loses` and no hand took its board. One node's log doesn't tell."""
+    return stay.how == LOST and stay.told is None and kind != LOG
+
+
+def line_of_loss(row, stay):
+    """The line at which a record was dropped or let go, and so lost."""
+    return next(line.number for group, word, line in reversed(row.deeds) if group == stay.begins and word in ("drops", "loses"))
+
+
+def line_of_alarm(group, kind):
+    """The line that names a bad standing: in a merged log that which `line check` names, the last of its turn."""
+    return group.last if kind == MERGED else group.first
 
 
 def columns_of(custody, read, most=72):
@@ -191,20 +235,26 @@ def columns_of(custody, read, most=72):
     return chosen or custody.groups[:1]
 
 
-def words_of(stay, kind=REPORT):
-    """A stay in words."""
+WENT = {REMOVED: "taken out", REPLACED: "replaced by another", BY_HAND: "taken out of the gap by hand",
+        LOST: "LOST: no machine has its record any more, and no hand took the board"}
+
+
+def words_of(stay, kind=REPORT, names=None):
+    """A stay in words; `names` are those of machines, by number."""
+    named = lambda place: place + (f" ({names[machine_of(place)]})" if names and machine_of(place) in names else "")
     who = {KEEPS: "machine {} keeps it", OUT: "the outlet of {} holds it", IN: "the intake of {} holds it"}
     marks = ", ".join(who[mark].format(place) for mark, place in sorted(stay.marks, key=lambda it: (it[1], it[0])))
     if stay.standing[0] == WITH:
-        said = f"with {stay.standing[1]}"
+        said = f"with {named(stay.standing[1])}"
     elif stay.standing[0] == BETWEEN and kind == LOG:
         said = f"in a handover ({marks})"
     elif stay.standing[0] == BETWEEN:
         gap = stay.standing[1]
-        said = f"between {gap} and {beside(gap, 1)} ({marks})" if gap else f"coming in ({marks})"
+        said = f"between {named(gap)} and {named(beside(gap, 1))} ({marks})" if gap else f"coming in ({marks})"
+    elif stay.standing[0] == GONE:
+        said = "not here" if kind == LOG else "gone: " + WENT[stay.how] if stay.how else "gone"
     else:
-        gone = "not here" if kind == LOG else "gone"
-        said = gone if stay.standing[0] == GONE else f"NO STANDING: {marks}"
+        said = f"NO STANDING: {marks}"
     if stay.told is not None:
         said += f"; but the report tells: {' '.join(str(word) for word in stay.told)}"
     return said

@@ -3,12 +3,12 @@ from bisect import bisect_left, bisect_right
 from collections import Counter
 from html import escape
 
-from custody import GONE, IN, KEEPS, NONE, OUT, WITH, columns_of, is_alarm, words_of
+from custody import GONE, IN, KEEPS, NONE, OUT, WITH, columns_of, is_alarm, is_lost, words_of
 from forms import LOG, MERGED, beside
 from links import place_order
 
-COLUMNS, WIDE, LABEL = 20, 44, 90
-# of several lanes, where `1.2+2.2` stands in a column
+COLUMNS, WIDE, LABEL, LABEL_NAMED = 20, 44, 90, 140
+# of several lanes, where `1.2+2.2` is in a column
 LANE_COLUMNS, LANE_WIDE = 16, 56
 MOST_UNCHANGED = 12
 TOP = 22
@@ -22,8 +22,9 @@ def key_text(key):
 class CustodyChart:
     """Draws the rows of a `Custody` in panels."""
 
-    def __init__(self, read, custody, short, columns):
-        self.read, self.custody, self.short, self.machines = read, custody, short, columns
+    def __init__(self, read, custody, short, columns, given):
+        self.read, self.custody, self.short, self.machines, self.given = read, custody, short, columns, given
+        self.label = LABEL_NAMED if any(id in given.boards for id in custody.rows) else LABEL
         self.columns = columns_of(custody, read)
         self.most, self.wide = (COLUMNS, WIDE) if len(columns.lanes) == 1 else (LANE_COLUMNS, LANE_WIDE)
         self.is_every = len(self.columns) == len(custody.groups)
@@ -116,28 +117,30 @@ class CustodyChart:
         if rest:
             parts.append(f'<text class="tr" x="4" y="{y + 11}">{escape(rest)}</text>')
             y += 16
-        width, high = LABEL + count * self.wide + 2, y + 4
+        width, high = self.label + count * self.wide + 2, y + 4
         return self.frame(start, count, width, high, "".join(parts))
 
     def frame(self, start, count, width, high, rows):
         heads, grid = [], []
         for number in range(count):
             group = self.columns[start + number]
-            x = LABEL + number * self.wide
-            heads.append(f'<text class="colhead" data-l="{group.first}" x="{x + self.wide / 2:g}" y="14" text-anchor="middle">{key_text(group.key)}</text>')
+            x = self.label + number * self.wide
+            said = self.given.said(group.key[0], group.key[0] - 1)
+            told = f"<title>{escape(said[0])}</title>" if said else ""
+            heads.append(f'<text class="colhead" data-l="{group.first}" x="{x + self.wide / 2:g}" y="14" text-anchor="middle">{told}{key_text(group.key)}</text>')
             grid.append(f"M{x} {TOP - 4}V{high - 4}")
-        under = f'<path class="grid" d="{"".join(grid)}M{LABEL + count * self.wide} {TOP - 4}V{high - 4}"/>'
+        under = f'<path class="grid" d="{"".join(grid)}M{self.label + count * self.wide} {TOP - 4}V{high - 4}"/>'
         if self.unvouched is not None:
             column = self.column(self.unvouched) - start
             if column < count:
-                x = LABEL + max(column, 0) * self.wide
-                under += f'<rect class="unsure" x="{x}" y="{TOP - 4}" width="{LABEL + count * self.wide - x}" height="{high - TOP}"/>'
+                x = self.label + max(column, 0) * self.wide
+                under += f'<rect class="unsure" x="{x}" y="{TOP - 4}" width="{self.label + count * self.wide - x}" height="{high - TOP}"/>'
                 if column >= 0:
                     under += f'<path class="rule" d="M{x - 2} {TOP - 6}V{high - 2}M{x + 2} {TOP - 6}V{high - 2}"/>'
         first, last = self.columns[start], self.columns[start + count - 1]
         title = f"Who has each record, {self.named(first)} to {self.named(last)}"
         return (f'<svg class="stave" role="img" aria-label="{escape(title)}" aria-describedby="ways" width="{width}" height="{high}" viewBox="0 0 {width} {high}" '
-                f'data-x="{LABEL}" data-w="{self.wide}" data-c="{" ".join(str(group.first) for group in self.columns[start:start + count])}">'
+                f'data-x="{self.label}" data-w="{self.wide}" data-c="{" ".join(str(group.first) for group in self.columns[start:start + count])}">'
                 f"<title>{escape(title)}</title>{under}{''.join(heads)}{rows}</svg>")
 
     def named(self, group):
@@ -145,6 +148,11 @@ class CustodyChart:
         if self.read.kind == MERGED:
             return f"machine {group.key[0]} turn {group.key[1]}"
         return f"{what} {group.key[0]}"
+
+    def named_row(self, id):
+        """A board's short name, and its barcode as far as there is room."""
+        barcode = self.given.boards.get(id, "")
+        return f"{self.short[id]} {barcode if len(barcode) < 13 else barcode[:12] + chr(0x2026)}".strip()
 
     def row(self, row, start, count, y, deeds):
         """A row of a panel, and how high it is."""
@@ -155,10 +163,10 @@ class CustodyChart:
             words.setdefault(self.column(group) - start, []).append((text, line, why))
         stack = max([len(said) for said in words.values()] + [1])
         top = y + 4 + 10 * stack
-        parts = [f'<g class="row" data-i="{row.id}"><text class="id" x="4" y="{top + 12}"><title>{row.id}</title>{escape(self.short[row.id])}</text>']
+        parts = [f'<g class="row" data-i="{row.id}"><text class="id" x="4" y="{top + 12}"><title>{row.id}</title>{escape(self.named_row(row.id))}</text>']
         for column, said in words.items():
             for number, (text, line, why) in enumerate(said):
-                x, under = LABEL + column * self.wide + 2, top - 3 - 10 * (len(said) - 1 - number)
+                x, under = self.label + column * self.wide + 2, top - 3 - 10 * (len(said) - 1 - number)
                 name, told = ("deedw bad", f"<title>{escape(why)}</title>") if why else ("deedw", "")
                 plate = f'<rect class="badplate" x="{x - 1}" y="{under - 8.5}" width="{self.wide - 1}" height="10.5"/>' if why else ""
                 parts.append(f'{plate}<text class="{name}" data-l="{line.number}" x="{x}" y="{under}">{told}{escape(text)}</text>')
@@ -172,14 +180,17 @@ class CustodyChart:
         end = min(self.column(stay.ends) - start, count) if stay.ends is not None else count
         if end <= first:
             return ""
-        x = LABEL + first * self.wide
+        x = self.label + first * self.wide
         if stay.standing == (GONE,) and stay.told is None:
             if self.column(stay.begins) < start:
                 return ""
-            return f'<path class="end" d="M{x + 1} {top - 1}v18"/><text class="tr" x="{x + 5}" y="{top + 11}">{"not here" if self.read.kind == LOG else "gone"}</text>'
+            if is_lost(stay, self.read.kind):
+                return (f'<g class="lost1" data-l="{self.custody.groups[stay.begins].first}"><title>{escape(words_of(stay, self.read.kind))}</title>'
+                        f'<rect class="bar alarm" x="{x + 0.5}" y="{top}" width="{self.wide + 4}" height="16"/><text class="bart onalarm" x="{x + 4}" y="{top + 11.5}">\u26a0 lost</text></g>')
+            return f'<path class="end" d="M{x + 1} {top - 1}v18"/><text class="tr" x="{x + 5}" y="{top + 11}">{"not here" if self.read.kind == LOG else {"removed": "taken out", "by hand": "by hand", "replaced": "replaced"}.get(stay.how, "gone")}</text>'
         look, text, name = self.look(stay)
         wide = (end - first) * self.wide
-        title = words_of(stay, self.read.kind)
+        title = words_of(stay, self.read.kind, self.given.machines)
         line = self.custody.groups[stay.begins].first
         if wide > 2 * self.wide and is_alarm(stay):
             text = title
@@ -191,13 +202,13 @@ class CustodyChart:
                 f'{self.plate(text, x, top) if name == "halo" else ""}<text class="bart {name}" x="{x + 4}" y="{top + 11.5}">{escape(text)}</text></g>')
 
     def plate(self, text, x, top):
-        """What a text stands on where the bar is striped."""
+        """What is under a text where the bar is striped."""
         return f'<rect class="plate" x="{x + 1.5}" y="{top + 2}" width="{min(6 * len(text) + 6, self.wide - 3)}" height="12" rx="2"/>'
 
-    def in_words(self):
+    def in_words(self, names=None):
         """Each record's way, in words."""
         said = []
         for row in self.custody.rows.values():
-            ways = [f"from {self.named(self.custody.groups[stay.begins])} {words_of(stay, self.read.kind)}" for stay in row.stays]
+            ways = [f"from {self.named(self.custody.groups[stay.begins])} {words_of(stay, self.read.kind, names)}" for stay in row.stays]
             said.append((row.id, "; ".join(ways) or "nothing but notes"))
         return said

@@ -27,9 +27,9 @@ LEVELS = ("ready", "available", "failed")
 SIGNALS = ("entry-available", "entry-failed", "exit-ready")
 LANES = ("1", "2", "3", "4")
 
-# what stands behind the first word, in turn: m a machine, p a machine's place on a lane, l another lane of that machine,
+# what comes after the first word, in turn: m a machine, p a machine's place on a lane, l another lane of that machine,
 # k a gap on a lane, s a side, e an event at that side, i an id, q a quality, n a number, o on or off, w a message,
-# t the rest; another word stands for itself or its choices
+# t the rest; another word is itself or its choices
 FORMS = {
     "insert": "p i", "remove": "p i", "replace": "p i i", "mark": "p i q", "hold": "p s", "go": "p s",
     "level": ("p", LEVELS, "o"), "signals": ("p", SIGNALS, "o"), "connects": "p", "notices": "p s", "closes": "p s",
@@ -102,7 +102,7 @@ def matches(pattern, word):
 
 
 def is_message(words):
-    """A message's name, and behind it maybe its number, its id or `none`."""
+    """A message's name, and after it maybe its number, its id or `none`."""
     if not words or not matches(NAME, words[0]):
         return False
     if len(words) == 1:
@@ -172,7 +172,7 @@ class Reader:
         return None if is_good else f"a word that isn't known here: {word[:40]}"
 
     def words(self, line, text):
-        """What the words behind the first say; answers why they don't, or None."""
+        """What the words after the first say; answers why they don't, or None."""
         words = text.split(" ")
         if words[0] == "no:" or (words[0] == "refused:" and self.kind != REPORT):
             line.word, line.rest = words[0], (text[len(words[0]) + 1:],)
@@ -318,7 +318,7 @@ def read_text(data, kind=None):
         if kind == REPORT and read.last is None and end_of(shown):
             line.word, read.last = "end", line
         elif read.last is not None:
-            line.why = "stands behind the last line of the report"
+            line.why = "comes after the last line of the report"
         elif len(text) > MOST_SHOWN:
             line.why = f"has more than {MOST_SHOWN} characters"
         else:

@@ -55,7 +55,7 @@ def read_log(name, machine, data):
         if not space or not matches(TURN, turn):
             raise Refused(number, f"has no turn's number in front: {shown[:60]}", name)
         if int(turn) < before:
-            raise Refused(number, f"is of turn {int(turn)}, behind one of turn {before}: a log has the lines of one run", name)
+            raise Refused(number, f"is of turn {int(turn)}, after one of turn {before}: a log has the lines of one run", name)
         before = int(turn)
         line = Line(number, shown, (int(turn),))
         line.why = reader.words(line, rest)
@@ -75,7 +75,7 @@ def mismatch(one, one_log, two, two_log):
     for heard, hears, sent, sends in ((one.heard, one_log, two.sent, two_log), (two.heard, two_log, one.sent, one_log)):
         for number, line in enumerate(heard):
             if number >= len(sent):
-                after = f", behind {sends.where(sent[-1])}" if sent else ""
+                after = f", after {sends.where(sent[-1])}" if sent else ""
                 return f"{hears.where(line)}: a message that {sends.name} doesn't send on that connection{after}"
             if line.word != "breach" and line.rest[-1] != sent[number].rest[-1]:
                 return f"{hears.where(line)}: another message than the one that was sent then, {sends.where(sent[number])}"
@@ -193,7 +193,7 @@ def merged(logs):
             break
     else:
         around = ordering.circle()
-        said = "; ".join(f"{before.then_log.where(before.then)} comes behind {before.first_log.where(before.first)}" for before in around)
+        said = "; ".join(f"{before.then_log.where(before.then)} comes after {before.first_log.where(before.first)}" for before in around)
         raise Refused(None, f"there is no order: {said}")
     made = []
     for log, part in order:

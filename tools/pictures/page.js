@@ -49,10 +49,24 @@
     it.textContent = text;
     parent.appendChild(it);
   }
+  // what is folded around a line is unfolded, and what the search hides is shown
+  function unfold(it) {
+    var fold = it.closest("details");
+    if (fold && !fold.open) { fold.open = true; }
+    [fold, it.closest(".piece")].forEach(function (part) { if (part) { part.classList.remove("none"); } });
+  }
+  function scriptOf(number) {
+    for (var at = number; at >= 1 && at > number - 400; at -= 1) {
+      var it = document.querySelector('.src li[data-l="' + at + '"]');
+      if (it) { return it.title; }
+    }
+    return "";
+  }
   function choose(number, jumps) {
     var it = row(number);
     if (!it) { return; }
     clear();
+    unfold(it);
     chosen = number;
     it.classList.add("sel");
     it.setAttribute("aria-current", "true");
@@ -63,9 +77,11 @@
     if (other) { row(other).classList.add("oth"); }
     says.textContent = "";
     add(says, "b", "Line " + number + " of the text: " + it.textContent);
+    var script = scriptOf(number);
+    if (script) { add(says, "div", "Script line " + script); }
     if (way) { add(says, "div", way.querySelector("title").textContent); }
     var standing = mark(number);
-    add(says, "div", standing.length ? "Behind this line of the script, or this turn: " + standing.slice(0, 12).join(" \u00b7 ") + (standing.length > 12 ? " \u00b7 and " + (standing.length - 12) + " more" : "") : "No record stands anywhere here.");
+    add(says, "div", standing.length ? "After this line of the script, or this turn: " + standing.slice(0, 12).join(" \u00b7 ") + (standing.length > 12 ? " \u00b7 and " + (standing.length - 12) + " more" : "") : "No machine has a record here.");
   }
   function next(query, back) {
     var found = all(query).map(function (it) { return Number(it.dataset.s || it.id.slice(1)); }).sort(function (a, b) { return a - b; });
@@ -89,7 +105,8 @@
     else if (svg) { choose(Number(svg.dataset.f) + Math.floor((event.clientY - svg.getBoundingClientRect().top) / (svg.getBoundingClientRect().height / svg.dataset.r)), false); }
   });
   document.addEventListener("keydown", function (event) {
-    if (event.ctrlKey || event.altKey || event.metaKey) { return; }
+    if (event.ctrlKey || event.altKey || event.metaKey || /^(INPUT|BUTTON|SUMMARY)$/.test(event.target.tagName || "")) { return; }
+    if (event.key === "/" && find) { q.focus(); q.select(); event.preventDefault(); return; }
     var moves = { ArrowDown: 1, j: 1, ArrowUp: -1, k: -1, PageDown: 20, PageUp: -20 }, key = event.key;
     if (moves[key]) { choose(Math.max(1, Math.min(count, chosen + moves[key])), true); }
     else if (key === "Home") { choose(1, true); }
@@ -102,6 +119,71 @@
     else { return; }
     event.preventDefault();
   });
+  // the search: which boards it names, and which lines are its own
+  var find = document.getElementById("find"), q = document.getElementById("q"), from = document.getElementById("from"), to = document.getElementById("to");
+  var folds = document.getElementById("folds"), hits = document.getElementById("hits"), kind = document.body.dataset.k, timer = 0, found = [];
+  var lines = all("ol > li[id]"), texts = lines.map(function (it) { return it.textContent.toLowerCase(); });
+  var numbers = lines.map(function (it, at) { return kind === "merged" ? at + 1 : parseInt(it.textContent, 10) || 0; });
+  var boards = {};
+  all("#ways li[data-i], .words li[data-i]").forEach(function (it) {
+    var head = /^([0-9a-f-]{36}) \(([^,)]*)(?:, ([^)]*))?\)/.exec(it.textContent);
+    if (head) { boards[it.dataset.i] = [head[1], head[2], head[3] || ""].map(function (name) { return name.toLowerCase(); }); }
+  });
+  // a board by its whole short name or barcode, or by a part of its barcode or id
+  function boardsOf(text) {
+    var whole = Object.keys(boards).filter(function (id) { return boards[id][1] === text || boards[id][2] === text; });
+    return whole.length ? whole : Object.keys(boards).filter(function (id) {
+      return text.length > 2 && (boards[id][2].indexOf(text) >= 0 || boards[id][0].indexOf(text) >= 0);
+    });
+  }
+  function show() {
+    var text = q.value.trim().toLowerCase(), low = parseInt(from.value, 10) || 0, high = parseInt(to.value, 10) || Infinity;
+    var ids = text ? boardsOf(text) : [], isFiltered = Boolean(text) || low > 0 || high < Infinity, of = {}, inRange = {};
+    ids.forEach(function (id) { of[id] = true; });
+    found = [];
+    lines.forEach(function (it, at) {
+      var here = texts[at], isIn = numbers[at] >= low && numbers[at] <= high;
+      var isFound = isIn && (!text || (ids.length ? ids.some(function (id) { return here.indexOf(id) >= 0; }) : here.indexOf(text) >= 0));
+      if (isIn) { inRange[at + 1] = true; }
+      if (isFound) { found.push(at + 1); }
+      it.classList.toggle("dim", isFiltered && !isFound);
+    });
+    var marks = new Set(found);
+    all(".piece").forEach(function (piece) {
+      var chart = piece.querySelector(".chart"), first = Number(chart.dataset.f), has = !isFiltered;
+      for (var number = first; !has && number < first + Number(chart.dataset.r); number += 1) { has = marks.has(number); }
+      piece.classList.toggle("none", !has);
+    });
+    all("details.fold").forEach(function (fold) {
+      var has = Boolean(fold.querySelector(".piece:not(.none)"));
+      fold.classList.toggle("none", !has);
+      fold.open = isFiltered ? has : !folds.checked;
+    });
+    all("details.staves").forEach(function (it) { if (isFiltered) { it.open = true; } });
+    all(".ways tr[data-i], .words li[data-i], #ways li[data-i]").forEach(function (it) { it.classList.toggle("none", ids.length > 0 && !of[it.dataset.i]); });
+    all("details.words").forEach(function (it) {
+      if (ids.length) { it.open = true; }
+      it.classList.toggle("none", ids.length > 0 && !it.querySelector("li:not(.none)"));
+    });
+    all(".stave").forEach(function (stave) {
+      var has = stave.dataset.c.split(" ").some(function (first) { return inRange[first]; });
+      var rows = all(".row", stave);
+      rows.forEach(function (it) { it.classList.toggle("dim", ids.length > 0 && !of[it.dataset.i]); });
+      stave.classList.toggle("none", isFiltered && (!has || ids.length > 0 && !rows.some(function (it) { return of[it.dataset.i]; })));
+    });
+    hits.textContent = !isFiltered ? "" : (ids.length ? ids.length + (ids.length === 1 ? " board, " : " boards, ") : "") + found.length + (found.length === 1 ? " line" : " lines");
+  }
+  function later() { clearTimeout(timer); timer = setTimeout(show, count > 5000 ? 400 : 120); }
+  [q, from, to].forEach(function (it) { it.addEventListener("input", later); });
+  folds.addEventListener("change", show);
+  document.getElementById("none").addEventListener("click", function () { q.value = from.value = to.value = ""; show(); });
+  find.addEventListener("submit", function (event) {
+    event.preventDefault();
+    show();
+    var next = found.filter(function (number) { return number > chosen; })[0] || found[0];
+    if (next) { choose(next, true); q.focus(); }
+  });
+  find.hidden = false;
   says.dataset.first = says.textContent;
   var named = /^#L([0-9]+)$/.exec(location.hash);
   if (named) { choose(Number(named[1]), true); }

@@ -3,6 +3,7 @@
 The chart is cut into pieces of `ROWS` rows, so that a browser lays out what is looked at alone. What goes on from
 one piece to the next is drawn in both.
 """
+from bisect import bisect_right
 from html import escape
 
 import links as meanings
@@ -55,7 +56,7 @@ def places_of(read, messages):
 
 
 class Columns:
-    """Where each machine and each gap stands."""
+    """Where each machine and each gap is."""
 
     def __init__(self, read, messages):
         self.places = places_of(read, messages)
@@ -116,11 +117,14 @@ class Columns:
 class Sequence:
     """Draws a text's lines; `pieces` has the parts of each piece, the lowest first."""
 
-    def __init__(self, read, messages, bars, short):
+    def __init__(self, read, messages, bars, short, starts=None, names=None):
         self.read, self.messages, self.bars, self.short = read, messages, bars, short
+        self.names = names or {}
         self.columns = Columns(read, messages)
         self.count = len(read.lines)
-        self.pieces = [{"under": [], "arrows": [], "over": []} for _ in range(-(-self.count // ROWS))]
+        self.starts = starts or list(range(0, self.count, ROWS))      # how many lines come before each piece
+        self.tops = [start * HIGH for start in self.starts] + [self.count * HIGH]
+        self.pieces = [{"under": [], "arrows": [], "over": []} for _ in self.starts]
         self.arrow_of = {}       # the number of a line: that of its arrow
         self.told = {}
         self.tracks = {}
@@ -135,11 +139,21 @@ class Sequence:
     def bottom(self):
         return self.count * HIGH
 
+    def piece_at(self, y):
+        """The piece in which a height is; the last one below the end."""
+        return max(min(bisect_right(self.tops, y), len(self.starts)) - 1, 0)
+
+    def piece_of(self, line):
+        return bisect_right(self.starts, line.number - 1) - 1
+
+    def high(self, number):
+        return self.tops[number + 1] - self.tops[number]
+
     def put(self, layer, line, text):
-        self.pieces[(line.number - 1) // ROWS][layer].append(text)
+        self.pieces[self.piece_of(line)][layer].append(text)
 
     def local(self, line):
-        return (line.number - 1) % ROWS * HIGH + HIGH / 2
+        return self.y(line) - self.tops[self.piece_of(line)]
 
     def label(self, line, x, text, anchor="start", name="t", dy=4):
         anchor = "" if anchor == "start" else f' text-anchor="{anchor}"'
@@ -157,21 +171,21 @@ class Sequence:
 
     def spread(self, layer, x1, y1, x2, y2, make):
         """What goes from one point to another, in each piece that it touches; `make` draws it from points."""
-        high = ROWS * HIGH
-        first, last = int(y1 // high), int(min(y2, self.bottom() - 0.01) // high)
+        tops = self.tops
+        first, last = self.piece_at(y1), self.piece_at(min(y2, self.bottom() - 0.01))
         if last - first > 3:     # a long way: straight down between its first and its last piece
             middle = (x1 + x2) / 2
-            self.spread(layer, x1, y1, middle, (first + 1) * high - 0.01, make)
+            self.spread(layer, x1, y1, middle, tops[first + 1] - 0.01, make)
             self.long_ways.append((round(middle), first + 1, last))
-            self.spread(layer, middle, last * high, x2, y2, make)
+            self.spread(layer, middle, tops[last], x2, y2, make)
             return
         if y1 == y2:
-            self.pieces[first][layer].append(make(x1, y1 - first * high, x2, y2 - first * high))
+            self.pieces[first][layer].append(make(x1, y1 - tops[first], x2, y2 - tops[first]))
             return
         for number in range(first, last + 1):
-            top, under = max(y1, number * high), min(y2, (number + 1) * high)
+            top, under = max(y1, tops[number]), min(y2, tops[number + 1])
             at = lambda y: x1 + (x2 - x1) * (y - y1) / (y2 - y1)
-            self.pieces[number][layer].append(make(at(top), top - number * high, at(under), under - number * high))
+            self.pieces[number][layer].append(make(at(top), top - tops[number], at(under), under - tops[number]))
 
     # messages
 
@@ -185,7 +199,7 @@ class Sequence:
         done = {}                # by place across: the piece up to which one is drawn
         for x, first, end in sorted(self.long_ways):
             for number in range(max(first, done.get(x, 0)), end):
-                self.pillars.setdefault((number, "far"), []).append(f"M{x} 0V{ROWS * HIGH}")
+                self.pillars.setdefault((number, "far"), []).append(f"M{x} 0V{self.high(number)}")
             done[x] = max(end, done.get(x, 0))
 
     def who(self, message, is_sender):
@@ -274,11 +288,11 @@ class Sequence:
 
     def draw_head(self, number, message, x1, y1, x2, y2):
         """The end of an arrow: a head where it was heard, a cross where it was lost, a ring where it is on its way."""
-        high = ROWS * HIGH
-        piece = min(int(min(y2, self.bottom() - 0.01) // high), len(self.pieces) - 1)
-        x, y = x2, y2 - piece * high
+        piece = self.piece_at(min(y2, self.bottom() - 0.01))
+        x, y = x2, y2 - self.tops[piece]
         if message.fate == meanings.BACKWARD:
-            x, y, piece = x1, y1 - int(y1 // high) * high, int(y1 // high)
+            piece = self.piece_at(y1)
+            x, y = x1, y1 - self.tops[piece]
             x1, y1, x2, y2 = x2, y2, x1, y1
         if message.fate in (meanings.ARRIVED, meanings.BACKWARD, meanings.ALONE):
             long = max(((x2 - x1) ** 2 + (y2 - y1) ** 2) ** 0.5, 1)
@@ -309,9 +323,8 @@ class Sequence:
 
     def pillar(self, name, x, y1, y2):
         """A bar straight down."""
-        high = ROWS * HIGH
-        for number in range(int(y1 // high), int(min(y2, self.bottom() - 0.01) // high) + 1):
-            top, under = max(y1 - number * high, 0), min(y2 - number * high, high)
+        for number in range(self.piece_at(y1), self.piece_at(min(y2, self.bottom() - 0.01)) + 1):
+            top, under = max(y1 - self.tops[number], 0), min(y2 - self.tops[number], self.high(number))
             self.pillars.setdefault((number, name), []).append(f"M{number_text(x)} {number_text(top)}V{number_text(under)}")
 
     def draw_pillars(self):
@@ -557,6 +570,9 @@ class Sequence:
         width = min(right - left - 12, 150)
         x = (left + right) / 2 - width / 2
         self.put("over", line, f'<rect class="chip{"" if fill else " gone"}" x="{number_text(x)}" y="{self.local(line) - 7.5}" width="{number_text(width)}" height="15" rx="4" {fill}/>')
+        if "url(" in fill:       # stripes: the text has a ground of its own
+            plate = min(width - 4, 6 * len(text) + 8)
+            self.put("over", line, f'<rect class="plate" x="{number_text((left + right - plate) / 2)}" y="{self.local(line) - 6}" width="{number_text(plate)}" height="12" rx="3"/>')
         self.label(line, (left + right) / 2, text, "middle", name)
 
     def on_with(self, line):
@@ -596,11 +612,11 @@ class Sequence:
         return {place: begun.get(machine_of(place), 0) for place in self.columns.places}
 
     def draw_boxes(self):
-        high, boxes, wide = ROWS * HIGH, {}, self.columns.box
+        boxes, wide = {}, self.columns.box
         for place, begins in self.begins().items():
             x = self.columns.left[place]
-            for number in range(int(begins // high), len(self.pieces)):
-                top, under = max(begins - number * high, 0), min(self.bottom() - number * high, high)
+            for number in range(self.piece_at(begins), len(self.pieces)):
+                top, under = max(begins - self.tops[number], 0), self.high(number)
                 boxes.setdefault(number, []).append((x, top, under))
         for number, parts in boxes.items():
             fill = "".join(f"M{number_text(x)} {number_text(top)}h{wide}V{number_text(under)}h-{wide}z" for x, top, under in parts)
@@ -622,7 +638,7 @@ class Sequence:
                 is_odd, last = not is_odd, key
             if is_odd:
                 self.odd.add(line.number)
-                bands.setdefault((line.number - 1) // ROWS, []).append(f"M0 {int(self.local(line) - HIGH / 2)}h{number_text(self.columns.width)}v{HIGH}H0z")
+                bands.setdefault(self.piece_of(line), []).append(f"M0 {int(self.local(line) - HIGH / 2)}h{number_text(self.columns.width)}v{HIGH}H0z")
         for number, parts in bands.items():
             self.pieces[number]["under"].insert(0, f'<path class="band" d="{"".join(parts)}"/>')
 
@@ -643,7 +659,7 @@ class Sequence:
             line = self.read.lines[self.read.unvouched - 1]
             y = self.local(line)
             self.put("over", line, f'<path class="rule" d="M0 {y - 2}H{number_text(self.columns.width)}M0 {y + 2}H{number_text(self.columns.width)}"/>')
-            self.label(line, self.columns.width / 2, "from here on nobody vouches: what was told was not so", "middle", "t strong halo2")
+            self.label(line, self.columns.width / 2, "from here on nothing is guaranteed: a false sensor reading", "middle", "t strong halo2")
         return self.pieces
 
     def heads(self):
@@ -657,8 +673,12 @@ class Sequence:
             name = rooms.get(machine_of(place), "machine")
             x, colour = self.columns.left[place], self.columns.colour(place)
             title = place if self.columns.is_narrow else f"{name} {place}"
+            named = self.names.get(machine_of(place))
+            if named and not self.columns.is_narrow:
+                title = f"{place} {named}"
+                title = title if len(title) <= self.columns.box // 7 else title[:self.columns.box // 7 - 1] + "\u2026"
             parts.append(f'<rect class="headbox" x="{number_text(x)}" y="4" width="{self.columns.box}" height="20" rx="3" style="fill:var(--m{colour})"/>'
-                         f'<text class="headt on{colour}" x="{number_text(x + self.columns.box / 2)}" y="18.5" text-anchor="middle">{escape(title)}</text>')
+                         f'<text class="headt on{colour}" x="{number_text(x + self.columns.box / 2)}" y="18.5" text-anchor="middle"><title>{escape(f"{name} {place}" + (f": {named}" if named else ""))}</title>{escape(title)}</text>')
             if not self.columns.is_narrow:
                 parts.append(f'<text class="tr" x="{number_text(x + 2)}" y="34">entry</text>'
                              f'<text class="tr" x="{number_text(x + self.columns.box - 2)}" y="34" text-anchor="end">exit</text>')

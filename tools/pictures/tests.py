@@ -19,6 +19,7 @@ import forms
 import links
 from custody import Custody, is_alarm
 from forms import MERGED, REPORT, Refused, read_text
+from given import Given, read_names, texts_of
 from merge import merged, read_log
 from page import page_of
 from sequence import Columns
@@ -262,7 +263,143 @@ def test_verdicts(_):
         count += 1
         alarm, wanted = first_alarm(read), int(said.group(2)) if said.group(2) else None
         must(alarm == wanted, f"{title}: the drawing's first bad line is {alarm}, the verdict's {wanted}")
+        named = re.search(r'answers <code>no</code> for line <a href="#L([0-9]+)"', page_of(unescaped(text), None, MERGED))
+        must((int(named.group(1)) if named else None) == wanted, f"{title}: the page says that line check names {named and named.group(1)}")
     return f"{count} logs"
+
+
+# what an undisturbed handover from 1 to 2 tells, a line of the text between two strokes; the last line asks for the next board
+HANDED = """0 insert 1 ID/0 sends 1 out BoardAvailable/0 with 1 ID/1 hears 1 out MachineReady/2 hears 2 in BoardAvailable/2 starts 1 ID/2 sends 2 in StartTransport/
+2 between 1 ID/3 hears 1 out StartTransport/3 opens 1 ID/4 move 1 begin/5 reads 1 out Begun/6 reads 2 in Begun/7 move 1 left/8 reads 1 out Left/8 leaves 1 ID/
+8 sends 1 out TransportFinished 3/9 move 1 in/10 reads 2 in Full/10 sends 2 in StopTransport 3/11 hears 2 in TransportFinished 3/11 settles 1 ID/
+11 sends 2 in MachineReady/11 with 2 ID/12 hears 1 out StopTransport 3"""
+BEGUN = """1 machine 1 99/2 machine 2 99/3 connects 2/3 sends 2 in ServiceDescription/4 hears 1 out ServiceDescription/4 sends 1 out ServiceDescription/
+5 hears 2 in ServiceDescription/5 sends 2 in MachineReady"""
+# the same up to the cut, behind which nobody takes the board, or somebody does
+DROPPED = """9 cut 1/10 notices 1 out/11 notices 2 in/TAKEN12 drops 1 ID/12 gone ID/13 connects 2/13 sends 2 in ServiceDescription/
+14 hears 1 out ServiceDescription/14 sends 1 out ServiceDescription/15 hears 2 in ServiceDescription/15 sends 2 in MachineReady"""
+TAKEN = "11 move 1 take/12 reads 2 in Taken/"
+
+
+def lines_of(text, first=0, id=""):
+    """The lines of a text whose numbers begin at 0, from a line of a script on."""
+    said = [line.partition(" ") for line in text.replace("\n", "").replace("ID", id).split("/")]
+    return [f"{int(number) + first} {rest}" for number, _, rest in said]
+
+
+def boards_report(count, lost=(), taken=()):
+    """A report of so many boards through two machines, and its script's barcodes."""
+    lines, script, number = lines_of(BEGUN), ["machine 99", "machine 99"] + ["connect 2", "flow 1 out", "flow 2 in"], 6
+    for board in range(1, count + 1):
+        id = f"00000001-0000-8000-8000-{board:012x}"
+        text = HANDED
+        if board in lost or board in taken:
+            text = HANDED.replace("\n", "").partition("/9 move 1 in")[0] + "/" + DROPPED.replace("TAKEN", TAKEN if board in taken else "")
+        made = lines_of(text, number, id)
+        lines += made
+        last = int(made[-1].partition(" ")[0])
+        script += [f"insert 1 PCB-{board}"] + ["tick 1"] * (last - number)
+        number = last + 1
+    left = count - len(lost) - len(taken)
+    lines.append(f"end lines={number - 1} boards={left} opened={count} settled={left}")
+    return ("\n".join(lines) + "\n").encode(), ("\n".join(script) + "\n").encode()
+
+
+def test_lost(_):
+    """A record that no hand took is lost, red and with a sign; one that a hand took isn't."""
+    data, _ = boards_report(3, lost=(2,), taken=(3,))
+    root = check_text("lost", data, REPORT, True)
+    page = page_of(data)
+    must(page.count('class="lost1"') == 1 and "1 record lost: no machine had it any more" in page, "one record is lost")
+    rows = {row.get("data-i")[-1]: "".join(row.itertext()) for row in root.iter(f"{XHTML}tr") if row.get("data-i")}
+    must("LOST at " in rows["2"] and "LOST" not in rows["3"] and "taken out of the gap" in rows["3"] and "with 2" in rows["1"], f"the rows: {rows}")
+    with open(os.path.join(TOP, "examples", "lost.log"), "rb") as file:
+        log = file.readlines()
+    must("1 record lost" in page_of(b"".join(log[:11])), "that of examples/lost.log isn't lost")
+    taken = log[:10] + [b"2 5 reads 9 in Taken\n"] + log[10:11]
+    must("record lost" not in page_of(b"".join(taken)) and "by hand" in page_of(b"".join(taken)), "one that was taken out is lost")
+    must("record lost" not in page_of(b"3 starts in 00000007-0000-8000-8000-000000000001\n4 drops in 00000007-0000-8000-8000-000000000001\n"), "one node's log tells of a loss")
+    return "a lost record and two that were taken out"
+
+
+def folds_of(root):
+    """The lines that are folded, of each fold."""
+    folds = [it for it in root.iter(f"{XHTML}details") if it.get("class") == "fold"]
+    return [[int(item.get("id")[1:]) for item in fold.iter(f"{XHTML}li") if item.get("id")] for fold in folds]
+
+
+def test_folds(_):
+    """Undisturbed handovers are folded, and what disturbs one isn't; each line is there once."""
+    data, _ = boards_report(40, lost=(17,))
+    root = check_text("folds", data, REPORT, True)
+    folds, lines = folds_of(root), data.split(b"\n")
+    must(len(folds) == 2 and all(fold == list(range(fold[0], fold[-1] + 1)) for fold in folds), f"the folds: {[(it[0], it[-1]) for it in folds]}")
+    hidden = {number for fold in folds for number in fold}
+    seen = [lines[number - 1] for number in range(1, len(lines)) if number not in hidden]
+    must(len(seen) < 40 and any(b" cut " in it for it in seen) and any(b" drops " in it for it in seen), f"{len(seen)} lines are seen")
+    must(not any(b" cut " in lines[number - 1] for number in hidden), "a cut is folded")
+    rows = [row for row in root.iter(f"{XHTML}tr") if row.get("data-i")]
+    must(len(rows) == 40 and all("".join(row.itertext()).count("\u2192") == (row.get("data-i")[-2:] != "11") for row in rows), "a row of the boards")
+    must(not folds_of(check_text("short", boards_report(2)[0], REPORT, True)), "a short text is folded")
+    merged_log = b"".join(merged([read_log(f"log {at}", at, log) for at, log in enumerate(logs_of(read_text(data)), 1)]))
+    must(len(folds_of(check_page(merged_log, page_of(merged_log)))) >= 2, "a merged log isn't folded")
+    return f"{len(hidden)} of {len(lines) - 1} lines in {len(folds)} folds"
+
+
+def test_given(_):
+    """The script's lines and comments beside the report, barcodes, and names."""
+    data, script = boards_report(3)
+    given = Given(texts_of(script))
+    read_names(b"# the line\n1 Loader\n2 Printer <b>\n{00000001-0000-8000-8000-000000000003} X-9\n", "names", given)
+    page = page_of(data, "given", REPORT, given)
+    root = check_page(data, page)
+    beside = [item for part in root.iter(f"{XHTML}ol") if part.get("class") == "src" for item in part]
+    must(len(beside) == data.count(b"\n"), "not a row of the script for each row of the text")
+    must("".join(beside[8].itertext()) == "insert 1 PCB-1" and beside[8].get("data-l") == "9", "the script's line isn't beside its report line")
+    must(all(text in page for text in ("1#1 PCB-1", "1#3 X-9", "1 Loader", "1 (Loader)", "2 (Printer &lt;b&gt;)")), "a barcode or a name isn't there")
+    must("it may be another one" not in page and "it may be another one" in page_of(data, None, REPORT, Given(texts_of(script + b"show\n"))), "another script isn't told")
+    noted = Given(texts_of(b"# a note\nmachine 4\n# one more,\n# in two lines\nmachine 4\n"))
+    page = page_of(b"2 machine 1 4\n5 machine 2 4\nend lines=5 boards=0 opened=0 settled=0\n", None, REPORT, noted)
+    must("<b>machine 4</b> <i>a note</i>" in page and "<b>machine 4</b> <i>one more, in two lines</i>" in page, "the comments aren't beside the report")
+    with tempfile.TemporaryDirectory() as folder:
+        names = os.path.join(folder, "names")
+        with open(names, "wb") as file:
+            file.write(b"1 Loader\nPrinter\n")
+        says(["picture", "--names", names], 3, "names line 2: isn't `<machine> <name>` or `<id> <barcode>`", data)
+        says(["picture", "--script", "/nothing/there"], 4, "/nothing/there: No such file", data)
+        says(["picture", "--script"], 2, "--script wants a file after it")
+        says(["picture", "--title"], 2, "--title wants a text after it")
+        says(["picture", "--as", "log", "--script", names], 2, "--script is for a report", data)
+    return f"{len(beside)} rows"
+
+
+def light_of(colour):
+    """The relative luminance of a colour, as WCAG has it."""
+    digits = colour[1:] if len(colour) == 7 else "".join(digit * 2 for digit in colour[1:])
+    parts = [int(digits[at:at + 2], 16) / 255 for at in (0, 2, 4)]
+    parts = [part / 12.92 if part <= 0.04045 else ((part + 0.055) / 1.055) ** 2.4 for part in parts]
+    return 0.2126 * parts[0] + 0.7152 * parts[1] + 0.0722 * parts[2]
+
+
+def test_contrast(_):
+    """Each text has a contrast of 4.5 or more with what is under it, by day, in the dark and in print; and the dark has no white ground."""
+    with open(os.path.join(TOP, "tools", "pictures", "page.css"), encoding="utf-8") as file:
+        schemes = [dict(re.findall(r"--([a-z0-9]+):(#[0-9a-f]{3,6})\b", scheme)) for scheme in re.findall(r":root\{([^}]*)\}", file.read())]
+    must(len(schemes) == 3, f"{len(schemes)} schemes of colours")
+    least = 21.0
+    for scheme in schemes:
+        pairs = [(f"on{number}", f"m{number}") for number in range(5)] + [("onalarm", "alarm"), ("pcbline", "back")]
+        pairs += [(text, ground) for text in ("text", "soft") for ground in ("back", "band", "box")] + [("text", "sel"), ("text", "other")]
+        for text, ground in pairs:
+            light, dark = sorted((light_of(scheme[text]), light_of(scheme[ground])), reverse=True)
+            contrast = (light + 0.05) / (dark + 0.05)
+            must(contrast >= 4.5, f"{text} {scheme[text]} on {ground} {scheme[ground]}: {contrast:.2f}")
+            least = min(least, contrast)
+    must(light_of(schemes[1]["back"]) < 0.05, "a white ground in the dark")
+    for name in glob.glob(os.path.join(TOP, "docs", "pictures", "*.svg")):
+        with open(name, encoding="utf-8") as file:
+            must("prefers-color-scheme: dark" in file.read(), f"{name} has a white ground in the dark")
+    return f"{least:.1f} at least"
 
 
 # hostile texts
@@ -472,7 +609,7 @@ def test_no_order(_):
     # each end says that it heard the other before it spoke
     refused_merge("there is no order: log 1 line 1", whole(["1 hears 7 out ServiceDescription", "2 sends 7 out ServiceDescription"]),
                   whole(["1 connects 8", "2 hears 8 in ServiceDescription", "3 sends 8 in ServiceDescription"]))
-    refused_merge("log 1 line 2: is of turn 1, behind one of turn 2", "2 hold 7 in\n1 go 7 in\n")
+    refused_merge("log 1 line 2: is of turn 1, after one of turn 2", "2 hold 7 in\n1 go 7 in\n")
     refused_merge("log 1 line 1: has no turn's number in front", "hold 7 in\n")
     refused_merge("log 1 line 2: is of another machine than 7", "1 hold 7 in\n2 hold 8 out\n")
     # a turn in which a message is heard and its answer's answer too has to be parted
@@ -516,6 +653,41 @@ def dumped(page):
         return subprocess.run(command, capture_output=True, timeout=300).stdout.decode()
 
 
+FIND = """<script>/*<![CDATA[*/
+var told = [], it = function (id) { return document.getElementById(id); };
+var count = function (query) { return document.querySelectorAll(query).length; };
+var look = function (name) { told.push(name + " lines " + count("li[id]:not(.dim)") + " rows " + count(".ways tr[data-i]:not(.none)") + " open " + count("details.fold[open]") + " pieces " + count(".piece:not(.none)")); };
+var ask = function (q, from, to) { it("q").value = q; it("from").value = from; it("to").value = to; it("find").dispatchEvent(new Event("submit", { cancelable: true })); };
+look("first"); told.push("shown " + !it("find").hidden + " " + it("L1").checkVisibility());
+ask("1#3", "", ""); look("board"); told.push("says " + it("says").firstChild.textContent);
+ask("pcb-5", "", ""); look("barcode");
+ask("", "6", "18"); look("range");
+ask("sends 1 out", "", ""); look("text"); told.push(it("hits").textContent);
+it("none").click(); look("all"); it("folds").click(); look("unfolded");
+var pre = document.createElement("pre"); pre.id = "told"; pre.textContent = told.join("\\n"); document.body.appendChild(pre);
+/*]]>*/</script></body>"""
+
+
+def test_find(_):
+    """What the search shows and hides, in a browser."""
+    if browser() is None:
+        return "skipped: there is no chromium"
+    data, script = boards_report(8)
+    page = page_of(data, "find", REPORT, Given(texts_of(script))).replace("</body>", FIND)
+    told = re.search(r'<pre id="told">(.*?)</pre>', dumped(page), re.S)
+    must(told is not None, "the script of the page didn't run")
+    said = html.unescape(told.group(1)).split("\n")
+    lines, of_board = data.count(b"\n"), sum(b"000003" in line for line in data.split(b"\n"))
+    must(re.match(rf"first lines {lines} rows 8 open 0 pieces ", said[0]) is not None, f"at first: {said[0]}")
+    must(said[1] == "shown true false", f"a line that is folded: {said[1]}")
+    must(said[2].startswith(f"board lines {of_board} rows 1 open 1 ") and "insert 1 00000001-0000-8000-8000-000000000003" in said[3], f"a board: {said[2:4]}")
+    must(said[4].startswith(f"barcode lines {of_board} rows 1 open 1 "), f"a barcode: {said[4]}")
+    must(re.match(r"range lines 25 rows 8 open 1 ", said[5]) is not None, f"from and to: {said[5]}")
+    must(re.match(r"text lines 17 ", said[6]) is not None and said[7] == "17 lines", f"a text: {said[6:8]}")
+    must(said[8] == said[0].replace("first", "all") and " open 1 " in said[9], f"all: {said[8:]}")
+    return "a board, a barcode, a range, a text"
+
+
 def test_browser(_):
     if browser() is None:
         return "skipped: there is no chromium"
@@ -538,7 +710,7 @@ def test_browser(_):
     return f"clicks and keys on the page of {name}"
 
 
-TESTS = (test_true_texts, test_lanes, test_verdicts, test_hostile, test_spoiled, test_words, test_long, test_hostile_long, test_merge, test_no_order, test_browser)
+TESTS = (test_true_texts, test_lanes, test_verdicts, test_lost, test_folds, test_given, test_contrast, test_hostile, test_spoiled, test_words, test_long, test_hostile_long, test_merge, test_no_order, test_find, test_browser)
 
 
 def main(folders):
