@@ -34,8 +34,8 @@ use Rattle.std.proofs.raw_atomic.Walks.{proved_at, leaves}
 use Rattle.hermes_machine.proofs.Values.{both, Loose, loose_good, loose_out}
 use Rattle.std_alloc.specs.contracts.boxed.Box.from_raw as callee
 use Rattle.std_alloc.proofs.boxed.Box.from_raw.Met.{met}
-use Rattle.hermes_machine.specs.contracts.Loose.into_box.{ended, clauses}
-use Rattle.hermes_machine.specs.contracts.Loose.into_box.Key.{name as #self}
+use Rattle.hermes_machine.specs.contracts.loose.Loose.into_box.{ended, clauses}
+use Rattle.hermes_machine.specs.contracts.loose.Loose.into_box.Key.{name as #self}
 use Rattle.hermes_machine.proofs.loose.Loose.into_box.Statement.{statement}
 use Rattle.hermes_machine.proofs.loose.Loose.into_box.Code as code
 
