@@ -1,0 +1,4 @@
+pub mod Ledgers
+pub mod Once
+pub mod Before
+pub mod Following
