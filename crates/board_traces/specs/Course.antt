@@ -12,7 +12,7 @@ pub record Course : Type 0 where
   pub since : ℕ
   pub last : Deed
 
--- a board stands where it stood
+-- the standing is what it was
 abbrev pub stays : Option Place → Option Place → Bool
 stays None now = false
 stays (Some was) now = is_same_standing (Some was) now

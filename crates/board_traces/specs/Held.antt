@@ -7,7 +7,7 @@ abbrev pub refused_line : Option Against → Option ℕ
 refused_line None = None
 refused_line (Some reason) = Some reason.line
 
--- of lines behind so many others, those before a line, where there is one
+-- of lines after so many others, those before a line, where there is one
 abbrev pub lines_before : Option ℕ → ℕ → List (List ℕ) → List (List ℕ)
 lines_before None before lines = lines
 lines_before (Some line) before lines = take (line - 1 - before) lines

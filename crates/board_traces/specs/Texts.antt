@@ -65,7 +65,7 @@ went_text id teller way since =
     id_text id ++ codes " gone " ++ decimal teller ++ codes " " ++ way_text way ++ codes " "
     ++ decimal since
 
--- behind a replaced board the one in its place
+-- after a replaced board the one in its place
 abbrev pub heir_text : Option ℕ → ℕ → List ℕ
 heir_text None new = codes "\n"
 heir_text (Some old) new = codes " " ++ id_text new ++ codes "\n"

@@ -15,7 +15,7 @@ use std::marker::Model;
 #[derive(Drop)]
 pub struct Board {
     pub marks: Vec<Mark>,
-    /// The number of the line since which they stand as they do.
+    /// The number of the line since which it is so.
     pub since: u64,
     /// The last deed that named the board.
     pub last: Deed,
@@ -71,7 +71,7 @@ fn course_by(
     })
 }
 
-/// Whether a board stands where it stood.
+/// Whether a standing is what it was.
 fn stays(stood: Option<Standing>, stands: Option<Standing>) -> bool
     ensures { result ≡ stays stood stands }
 {

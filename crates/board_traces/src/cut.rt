@@ -5,7 +5,7 @@ ghost use Rattle.log_verdict.specs.LineEnds.{CutsLine, HasNoEnd, IsFirstEnd};
 
 use memchr::memchr;
 
-/// What stands before the first space, and what follows it.
+/// What comes before the first space, and what follows it.
 pub fn cut_at_space(bytes: &[u8]) -> Option<(&[u8], &[u8])>
     ensures { option_map (λ parts. (parts.0.now, parts.1.now)) result ≡ cut_at_space bytes.now }
 {
@@ -28,7 +28,7 @@ pub fn cut_line(bytes: &[u8]) -> Option<(&[u8], &[u8])>
     }
 }
 
-/// Where the first line end stands.
+/// Where the first line end is.
 fn end_of(bytes: &[u8]) -> Option<usize>
     ensures found { IfSome result (IsFirstEnd bytes.now) }
     ensures none { IfNone result (HasNoEnd bytes.now) }

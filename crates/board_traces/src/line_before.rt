@@ -4,7 +4,7 @@ ghost use Rattle.board_traces.specs.Held.{is_reached, lines_before};
 
 use crate::cut::{cut_line, without_return};
 
-/// The next line of a log, behind so many others, and what follows it; `None` at the end of the
+/// The next line of a log, after so many others, and what follows it; `None` at the end of the
 /// log, and where the next is the line before which it is read.
 pub fn next_before(rest: &[u8], done: u64, end: Option<u64>) -> Option<(&[u8], &[u8])>
     ensures next { IfSome result (λ parts. lines_before end done (lines rest.now)

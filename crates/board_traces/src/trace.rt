@@ -31,7 +31,7 @@ const VERDICT_BYTES: usize = 100;
 /// it, and then `no <line> <reason>`, as a check says it.
 ///
 /// It keeps a course for each board. `Memory` where there is none for them, for a copy of the log,
-/// or for the text, of which a front may then stand in `to`.
+/// or for the text, of which `to` may then have a beginning.
 pub fn trace_log(alloc: Global, log: &[u8], to: &mut Vec<u8>) -> Result<Verdict, Memory>
     ensures text { OnOk result (to.new.items ≡ to.old.items ++ trace_of log.now) }
     ensures verdict { IfOk result (λ verdict. verdict ≡ verdict_on (against (lines log.now))) }

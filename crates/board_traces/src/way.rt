@@ -1,4 +1,4 @@
-ghost use Rattle.std.specs.Prelude.{◌≡◌, ◌^◌, ◌+◌, ◌-◌, ◌<◌};
+ghost use Rattle.std.specs.Prelude.{◌≡◌};
 ghost use Rattle.board_traces.specs.Texts.{is_of, teller_of, way_of, went_so};
 
 use standings::{Deed, Mark};
@@ -9,7 +9,7 @@ use std::fmt;
 pub enum Way {
     /// It was taken out by hand.
     Removed,
-    /// Another stands in its place.
+    /// Another is in its place.
     Replaced,
     /// It left a machine, and no machine after it had its record.
     Left,

@@ -9,7 +9,7 @@ use std::io::Write;
 
 /// Appends a case's first line, what is written of its log, and what that is found to be.
 ///
-/// The first line is the case's name, maybe with `, ` and a board's id behind it: then it is the
+/// The first line is the case's name, maybe with `, ` and a board's id after it: then it is the
 /// trace of that board. The others spell the log, each with a line end, unless it ends in `\`.
 pub fn tell_case(alloc: Global, case: &str, to: &mut Vec<u8>) -> Result<(), Memory> {
     let (head, body) = case.split_once('\n').unwrap_or((case, ""));
