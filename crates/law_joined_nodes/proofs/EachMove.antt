@@ -193,30 +193,30 @@ takes_part (Ok done) rules moment input from s t log aside texts may same takes 
 takes_part (Err why) rules moment input from s t log aside texts may same takes = still_is takes.0 same_self
 
 tells_part : {moment : ℤ} (text : List ℕ) (s t : RunState) (log : List ℕ) → Tells text s t log → Part moment s t
-tells_part text s t log tells = still_is tells.0 (record { node = refl; up = refl; down = refl; held = refl })
+tells_part text s t log tells = still_is tells.0 (record { node = refl; up = refl; down = refl; held = refl; step = refl; drives = refl })
 
 -- ---- the panel's connection
 
 second_same : (wire : Wire) (s : RunState) → Same s (panel_second wire s)
 second_same wires.Rests s = same_self
-second_same wires.Stands s = record { node = refl; up = refl; down = refl; held = refl }
+second_same wires.Stands s = record { node = refl; up = refl; down = refl; held = refl; step = refl; drives = refl }
 second_same wires.Ends s = same_self
 second_same wires.Breaks s = same_self
 
 bytes_same : (wire : Wire) (bytes : List ℕ) (s : RunState) → Same s (panel_bytes wire bytes s)
 bytes_same wires.Rests bytes s = same_self
-bytes_same wires.Stands bytes s = record { node = refl; up = refl; down = refl; held = refl }
+bytes_same wires.Stands bytes s = record { node = refl; up = refl; down = refl; held = refl; step = refl; drives = refl }
 bytes_same wires.Ends bytes s = same_self
 bytes_same wires.Breaks bytes s = same_self
 
 closed_same : (wire : Wire) (s : RunState) → Same s (panel_closed wire s)
 closed_same wires.Rests s = same_self
-closed_same wires.Stands s = record { node = refl; up = refl; down = refl; held = refl }
+closed_same wires.Stands s = record { node = refl; up = refl; down = refl; held = refl; step = refl; drives = refl }
 closed_same wires.Ends s = same_self
 closed_same wires.Breaks s = same_self
 
 arrived_part : {moment : ℤ} (wire : Wire) (rules : Rules) (s t : RunState) (log : List ℕ) → PanelArrives wire rules s t log → Part moment s t
-arrived_part wires.Rests rules s t log arrives = moved_part (record { node = refl; up = refl; down = refl; held = refl }) (tells_part _ (with_wire ways.Panel wires.Stands s) t log arrives)
+arrived_part wires.Rests rules s t log arrives = moved_part (record { node = refl; up = refl; down = refl; held = refl; step = refl; drives = refl }) (tells_part _ (with_wire ways.Panel wires.Stands s) t log arrives)
 arrived_part wires.Stands rules s t log arrives = still_is arrives.0 same_self
 arrived_part wires.Ends rules s t log arrives = still_is arrives.0 same_self
 arrived_part wires.Breaks rules s t log arrives = still_is arrives.0 same_self
@@ -236,7 +236,7 @@ input_part (Ok done) rules moment sensed input s t log aside texts may does = st
 input_part (Err why) rules moment sensed input s t log aside texts may does = tells_part _ s t log does
 
 asks_part : {moment : ℤ} (may : Result (Unit {0}) No) (s t : RunState) (log : List ℕ) → AsksIf may s t log → Part moment s t
-asks_part (Ok done) s t log asks = still_is asks.0 (record { node = refl; up = refl; down = refl; held = refl })
+asks_part (Ok done) s t log asks = still_is asks.0 (record { node = refl; up = refl; down = refl; held = refl; step = refl; drives = refl })
 asks_part (Err why) s t log asks = tells_part _ s t log asks
 
 connect_part : {moment : ℤ} (upstream : Option Address) (s t : RunState) (log : List ℕ) → AsksConnect upstream s t log → Part moment s t
@@ -246,7 +246,7 @@ connect_part (Some address) s t log asks = asks_part (may_ask (has_ended s.upstr
 asked_part : (asked : Result PanelLine LineWhy) (rules : Rules) (moment : ℤ) (s t : RunState) (log : List ℕ) → FitOk asked → DoesAsked asked rules moment s t log → Part moment s t
 asked_part (Err why) rules moment s t log texts does = tells_part _ s t log does
 asked_part (Ok lines.Blank) rules moment s t log texts does = still_is does.0 same_self
-asked_part (Ok lines.End) rules moment s t log texts does = still_is does.0 (record { node = refl; up = refl; down = refl; held = refl })
+asked_part (Ok lines.End) rules moment s t log texts does = still_is does.0 (record { node = refl; up = refl; down = refl; held = refl; step = refl; drives = refl })
 asked_part (Ok lines.Show) rules moment s t log texts does = tells_part _ s t log does
 asked_part (Ok lines.Connect) rules moment s t log texts does = connect_part s.settings.upstream s t log does
 asked_part (Ok (lines.Insert barcode)) rules moment s t log texts does = input_part (may_of s.node (inputs.Insert barcode)) rules moment _ (inputs.Insert barcode) s t log tt texts refl does
@@ -266,20 +266,20 @@ asked_part (Ok (lines.Ask question)) rules moment s t log texts does = input_par
 asked_part (Ok (lines.Sense sensed)) rules moment s t log texts does = input_part (may_of s.node (inputs.Nothing)) rules moment _ (inputs.Nothing) s t log tt texts refl does
 
 keeps_part : {moment : ℤ} (long : Bool) (front : List ℕ) (s t : RunState) (log : List ℕ) → KeepsFront long front s t log → Part moment s t
-keeps_part true front s t log keeps = moved_part (record { node = refl; up = refl; down = refl; held = refl }) (tells_part _ (record s { line = []; drops = true }) t log keeps)
-keeps_part false front s t log keeps = still_is keeps.0 (record { node = refl; up = refl; down = refl; held = refl })
+keeps_part true front s t log keeps = moved_part (record { node = refl; up = refl; down = refl; held = refl; step = refl; drives = refl }) (tells_part _ (record s { line = []; drops = true }) t log keeps)
+keeps_part false front s t log keeps = still_is keeps.0 (record { node = refl; up = refl; down = refl; held = refl; step = refl; drives = refl })
 
 fronts_part : {moment : ℤ} (drops : Bool) (front : List ℕ) (s t : RunState) (log : List ℕ) → Fronts drops front s t log → Part moment s t
 fronts_part true front s t log fronts = still_is fronts.0 same_self
 fronts_part false front s t log fronts = keeps_part (is_too_long front) front s t log fronts
 
 ends_part : (drops : Bool) (line : List ℕ) (rules : Rules) (moment : ℤ) (s t : RunState) (log : List ℕ) → Ends drops line rules moment s t log → Part moment s t
-ends_part true line rules moment s t log ends = still_is ends.0 (record { node = refl; up = refl; down = refl; held = refl })
-ends_part false line rules moment s t log ends = moved_part (record { node = refl; up = refl; down = refl; held = refl }) (asked_part (panel_line_of (without_return line)) rules moment (record s { line = [] }) t log (line_fit (without_return line)) ends)
+ends_part true line rules moment s t log ends = still_is ends.0 (record { node = refl; up = refl; down = refl; held = refl; step = refl; drives = refl })
+ends_part false line rules moment s t log ends = moved_part (record { node = refl; up = refl; down = refl; held = refl; step = refl; drives = refl }) (asked_part (panel_line_of (without_return line)) rules moment (record s { line = [] }) t log (line_fit (without_return line)) ends)
 
 cut_part : (cut : Option (List ℕ × List ℕ)) (rules : Rules) (moment : ℤ) (s t : RunState) (log : List ℕ) → DoesCut cut rules moment s t log → Part moment s t
-cut_part None rules moment s t log does = moved_part (record { node = refl; up = refl; down = refl; held = refl }) (fronts_part s.drops (s.line ++ s.rest) (record s { rest = [] }) t log does)
-cut_part (Some parts) rules moment s t log does = moved_part (record { node = refl; up = refl; down = refl; held = refl }) (ends_part s.drops (s.line ++ parts.0) rules moment (record s { rest = parts.1 }) t log does)
+cut_part None rules moment s t log does = moved_part (record { node = refl; up = refl; down = refl; held = refl; step = refl; drives = refl }) (fronts_part s.drops (s.line ++ s.rest) (record s { rest = [] }) t log does)
+cut_part (Some parts) rules moment s t log does = moved_part (record { node = refl; up = refl; down = refl; held = refl; step = refl; drives = refl }) (ends_part s.drops (s.line ++ parts.0) rules moment (record s { rest = parts.1 }) t log does)
 
 -- ---- messages of the supervisor
 
@@ -287,23 +287,23 @@ unsupervised_part : (rules : Rules) (moment : ℤ) (s t : RunState) (log : List 
 unsupervised_part rules moment s t log does = takes_part (may_of s.node (inputs.Supervise false)) rules moment (inputs.Supervise false) s s t log tt tt refl same_self does
 
 breaks_part : (rules : Rules) (moment : ℤ) (text : List ℕ) (s t : RunState) (log : List ℕ) → Unsupervised rules moment (broken_off moment text s) t log → Part moment s t
-breaks_part rules moment text s t log does = moved_part (record { node = refl; up = refl; down = refl; held = refl }) (unsupervised_part rules moment (broken_off moment text s) t log does)
+breaks_part rules moment text s t log does = moved_part (record { node = refl; up = refl; down = refl; held = refl; step = refl; drives = refl }) (unsupervised_part rules moment (broken_off moment text s) t log does)
 
 answer_part : (may : Result (Unit {0}) No) (rules : Rules) (moment : ℤ) (query : ℕ) (order : List ℕ) (s t : RunState) (log : List ℕ) → may_of s.node (inputs.Answer query order) ≡ may → AnswersIf may rules moment query order s t log → Part moment s t
 answer_part (Ok done) rules moment query order s t log may does = step_part tt tt may does
-answer_part (Err why) rules moment query order s t log may does = still_is does.0 (record { node = refl; up = refl; down = refl; held = refl })
+answer_part (Err why) rules moment query order s t log may does = still_is does.0 (record { node = refl; up = refl; down = refl; held = refl; step = refl; drives = refl })
 
 action_part : (action : VerticalAction) (rules : Rules) (moment : ℤ) (s t : RunState) (log : List ℕ) → DoesAction action rules moment s t log → Part moment s t
 action_part actions.Describe rules moment s t log does =
-    moved_part (record { node = refl; up = refl; down = refl; held = refl })
+    moved_part (record { node = refl; up = refl; down = refl; held = refl; step = refl; drives = refl })
     (takes_part (may_of s.node (inputs.Supervise true)) rules moment (inputs.Supervise true) (said moment (system_of rules.machine_id) s) (said moment (system_of rules.machine_id) s) t log tt tt refl same_self does)
-action_part (actions.Pong id) rules moment s t log does = still_is does.0 (record { node = refl; up = refl; down = refl; held = refl })
+action_part (actions.Pong id) rules moment s t log does = still_is does.0 (record { node = refl; up = refl; down = refl; held = refl; step = refl; drives = refl })
 action_part (actions.Answer query order) rules moment s t log does = answer_part (may_of s.node (inputs.Answer query order)) rules moment query order s t log refl does
 action_part actions.Nothing rules moment s t log does = still_is does.0 same_self
 
 row_part : (row : Option SupervisedRow) (body : Vertical) (rules : Rules) (moment : ℤ) (s t : RunState) (log : List ℕ) → DoesRow row body rules moment s t log → Part moment s t
 row_part None body rules moment s t log does = breaks_part rules moment (unexpected (kind_of body)) s t log does
-row_part (Some row) body rules moment s t log does = moved_part (record { node = refl; up = refl; down = refl; held = refl }) (action_part row.action rules moment (with_stands row.after s) t log does)
+row_part (Some row) body rules moment s t log does = moved_part (record { node = refl; up = refl; down = refl; held = refl; step = refl; drives = refl }) (action_part row.action rules moment (with_stands row.after s) t log does)
 
 word_part : (word : Word) (rules : Rules) (moment : ℤ) (s t : RunState) (log : List ℕ) → DoesWord word rules moment s t log → Part moment s t
 word_part (words.Says message) rules moment s t log does = row_part (supervised_row s.channel.stands message.body) message.body rules moment s t log does
@@ -315,7 +315,7 @@ heard_part finds.More rules moment s t log does = still_is does.0 same_self
 heard_part finds.TooLong rules moment s t log does = breaks_part rules moment (codes "message too long") s t log does
 
 hear_part : (rules : Rules) (moment : ℤ) (s t : RunState) (log : List ℕ) → DoesHear rules moment s t log → Part moment s t
-hear_part rules moment s t log does = moved_part (record { node = refl; up = refl; down = refl; held = refl }) (heard_part does.found rules moment (with_channel does.channel s) t log does.does)
+hear_part rules moment s t log does = moved_part (record { node = refl; up = refl; down = refl; held = refl; step = refl; drives = refl }) (heard_part does.found rules moment (with_channel does.channel s) t log does.does)
 
 -- ---- closes, and the reset of a side
 
@@ -382,19 +382,19 @@ other_close ways.Upstream third side = absurd third
 other_close ways.Downstream third side = absurd third
 
 close_part : (way : Way) (rules : Rules) (moment : ℤ) (s t : RunState) (log : List ℕ) → AfterClose rules moment way s t log → DoesOne rules moment s t (Closes way ∷ [])
-close_part ways.Panel rules moment s t log after = by_part _ (other_close ways.Panel tt) (still_is after.0 (record { node = refl; up = refl; down = refl; held = refl }))
+close_part ways.Panel rules moment s t log after = by_part _ (other_close ways.Panel tt) (still_is after.0 (record { node = refl; up = refl; down = refl; held = refl; step = refl; drives = refl }))
 close_part ways.Upstream rules moment s t log after =
     close_one {rules = rules} Entry (upstream_closed s) (notices_by (may_of s.node (inputs.Notice Entry)) rules moment Entry (record s { upstream = at_rest }) t log refl after)
 close_part ways.Downstream rules moment s t log after =
     close_one {rules = rules} Exit (downstream_closed s) (notices_by (may_of s.node (inputs.Notice Exit)) rules moment Exit (record s { downstream = at_rest }) t log refl after)
 close_part ways.Supervisory rules moment s t log after =
     let closed : RunState = record s { supervisory = at_rest; channel = no_session } in
-    by_part _ (other_close ways.Supervisory tt) (moved_part (record { node = refl; up = refl; down = refl; held = refl }) (unsupervised_part rules moment closed t log after))
-close_part ways.Configuration rules moment s t log after = by_part _ (other_close ways.Configuration tt) (still_is after.0 (record { node = refl; up = refl; down = refl; held = refl }))
+    by_part _ (other_close ways.Supervisory tt) (moved_part (record { node = refl; up = refl; down = refl; held = refl; step = refl; drives = refl }) (unsupervised_part rules moment closed t log after))
+close_part ways.Configuration rules moment s t log after = by_part _ (other_close ways.Configuration tt) (still_is after.0 (record { node = refl; up = refl; down = refl; held = refl; step = refl; drives = refl }))
 
 same_begun : (side : Side) (s : RunState) → Same s (reset_begun side s)
-same_begun Entry s = record { node = refl; up = refl; down = refl; held = refl }
-same_begun Exit s = record { node = refl; up = refl; down = refl; held = refl }
+same_begun Entry s = record { node = refl; up = refl; down = refl; held = refl; step = refl; drives = refl }
+same_begun Exit s = record { node = refl; up = refl; down = refl; held = refl; step = refl; drives = refl }
 
 no_call : AreOther []
 no_call side = tt
@@ -530,7 +530,7 @@ finds_end {s = s} {t = t} side got none is = record {
 
 upstream_part : (rules : Rules) (moment : ℤ) (got : GotBytes) (s t : RunState) (log : List ℕ) → s.held.finding ≡ None → AfterUpstream rules moment got s t log → DoesOne rules moment s t (Polls ways.Upstream room_bytes got ∷ [])
 upstream_part rules moment founds.Arrived s t log none after =
-    connect_by (may_of s.node inputs.Connect) rules moment (with_wire ways.Upstream wires.Stands s) s t log refl (record { node = refl; up = refl; down = refl; held = refl }) none after
+    connect_by (may_of s.node inputs.Connect) rules moment (with_wire ways.Upstream wires.Stands s) s t log refl (record { node = refl; up = refl; down = refl; held = refl; step = refl; drives = refl }) none after
 upstream_part rules moment founds.Second s t log none after = by_part _ (polled_other ways.Upstream founds.Second) (still_is after.0 same_self)
 upstream_part rules moment (founds.Bytes bytes) s t log none after = finds_bytes Entry bytes none after.0
 upstream_part rules moment founds.NotYet s t log none after = by_part _ (polled_other ways.Upstream founds.NotYet) (still_is after.0 same_self)
@@ -539,7 +539,7 @@ upstream_part rules moment founds.Failed s t log none after = finds_end Entry fo
 
 downstream_part : (rules : Rules) (moment : ℤ) (got : GotBytes) (s t : RunState) (log : List ℕ) → s.held.finding ≡ None → AfterDownstream rules moment got s t log → DoesOne rules moment s t (Polls ways.Downstream room_bytes got ∷ [])
 downstream_part rules moment founds.Arrived s t log none after =
-    accept_by (may_of s.node inputs.Accepted) rules moment (with_wire ways.Downstream wires.Stands s) s t log refl (record { node = refl; up = refl; down = refl; held = refl }) none after
+    accept_by (may_of s.node inputs.Accepted) rules moment (with_wire ways.Downstream wires.Stands s) s t log refl (record { node = refl; up = refl; down = refl; held = refl; step = refl; drives = refl }) none after
 downstream_part rules moment founds.Second s t log none after = second_by (may_of s.node inputs.Second) rules moment s t log refl after
 downstream_part rules moment (founds.Bytes bytes) s t log none after = finds_bytes Exit bytes none after.0
 downstream_part rules moment founds.NotYet s t log none after = by_part _ (polled_other ways.Downstream founds.NotYet) (still_is after.0 same_self)
@@ -579,7 +579,7 @@ one_from same one = record {
 }
 
 same_moved : {s : RunState} → Same s (moved_on s)
-same_moved = record { node = refl; up = refl; down = refl; held = refl }
+same_moved = record { node = refl; up = refl; down = refl; held = refl; step = refl; drives = refl }
 
 poll_one : (rules : Rules) (moment : ℤ) (way : Way) (got : GotBytes) (s t : RunState) (log : List ℕ) → s.held.finding ≡ None → AfterPoll rules moment way got s t log → DoesOne rules moment s t (Polls way room_bytes got ∷ [])
 poll_one rules moment ways.Panel got s t log none after = by_part _ (polled_other ways.Panel got) (panel_part rules got s t log after)
@@ -591,8 +591,8 @@ poll_one rules moment ways.Configuration got s t log none after = by_part _ (pol
 -- ---- what was found is taken
 
 broken_same : (side : Side) (test : Bool) (s : RunState) → Same s (broken (way_of side) test s)
-broken_same Entry true s = record { node = refl; up = refl; down = refl; held = refl }
-broken_same Exit true s = record { node = refl; up = refl; down = refl; held = refl }
+broken_same Entry true s = record { node = refl; up = refl; down = refl; held = refl; step = refl; drives = refl }
+broken_same Exit true s = record { node = refl; up = refl; down = refl; held = refl; step = refl; drives = refl }
 broken_same side false s = same_self
 
 hears_stays : (at side : Side) (piece : Bor (List ℕ)) (told : List Act) (s t : RunState) → Holds s side piece.now → t.held.finding ≡ None → Stays at s t [] (Some (record { read = []; input = inputs.Bytes side piece; told = told }))
@@ -655,9 +655,9 @@ takes_finding rules moment (Some finding) s t log is takes = takes_found rules m
 
 -- a way other than the neighbours' sends
 third_same : (way : Way) → IsThird way → (value : WayValue) (s : RunState) → Same s (with_way way value s)
-third_same ways.Panel third value s = record { node = refl; up = refl; down = refl; held = refl }
-third_same ways.Supervisory third value s = record { node = refl; up = refl; down = refl; held = refl }
-third_same ways.Configuration third value s = record { node = refl; up = refl; down = refl; held = refl }
+third_same ways.Panel third value s = record { node = refl; up = refl; down = refl; held = refl; step = refl; drives = refl }
+third_same ways.Supervisory third value s = record { node = refl; up = refl; down = refl; held = refl; step = refl; drives = refl }
+third_same ways.Configuration third value s = record { node = refl; up = refl; down = refl; held = refl; step = refl; drives = refl }
 third_same ways.Upstream third value s = absurd third
 third_same ways.Downstream third value s = absurd third
 
@@ -743,20 +743,20 @@ sent_one moment ways.Supervisory sent s = by_part _ (third_other ways.Supervisor
 sent_one moment ways.Configuration sent s = by_part _ (third_other ways.Configuration s.configuration.unsent sent tt) (moved_part same_moved (still (third_sent ways.Configuration sent (moved_on s) tt)))
 
 listened_part : {moment : ℤ} (address : Address) (opened : Opened) (s : RunState) → Part moment s (after_listen address opened s)
-listened_part address openings.Done s = still (record { node = refl; up = refl; down = refl; held = refl })
-listened_part address openings.Failed s = still (record { node = refl; up = refl; down = refl; held = refl })
+listened_part address openings.Done s = still (record { node = refl; up = refl; down = refl; held = refl; step = refl; drives = refl })
+listened_part address openings.Failed s = still (record { node = refl; up = refl; down = refl; held = refl; step = refl; drives = refl })
 
 -- ---- A MOVE
 
 move_does : {rules : Rules} {moment : ℤ} {s t : RunState} {given : List Given} {log : List ℕ} → Moves rules moment s given t log → DoesOne rules moment s t given
 move_does (listens {s} {way} {address} {opened} next) = by_part _ (λ side. tt) (listened_part address opened s)
-move_does (connects next) = by_part _ (λ side. tt) (still (record { node = refl; up = refl; down = refl; held = refl }))
+move_does (connects next) = by_part _ (λ side. tt) (still (record { node = refl; up = refl; down = refl; held = refl; step = refl; drives = refl }))
 move_does {rules} {moment} (polls {s} {t} {way} {got} {log} next done) = one_from same_moved (poll_one rules moment way got (moved_on s) t log (none_held rules s way next) done)
 move_does {moment = moment} (sends {s} {way} {sent} next) = sent_one moment way sent s
-move_does (refuses next is) = by_part _ (λ side. tt) (still (record { node = refl; up = refl; down = refl; held = refl }))
+move_does (refuses next is) = by_part _ (λ side. tt) (still (record { node = refl; up = refl; down = refl; held = refl; step = refl; drives = refl }))
 move_does {rules} {moment} (closes {s} {t} {way} {log} next done) = close_part way rules moment s t log done
 move_does (skips next) = by_part _ no_call (still same_moved)
-move_does {rules} {moment} (looks_again {s} {t} {got} {log} next done) = by_part _ (polled_other ways.Panel got) (moved_part (record { node = refl; up = refl; down = refl; held = refl }) (panel_part rules got (looked got s) t log done))
+move_does {rules} {moment} (looks_again {s} {t} {got} {log} next done) = by_part _ (polled_other ways.Panel got) (moved_part (record { node = refl; up = refl; down = refl; held = refl; step = refl; drives = refl }) (panel_part rules got (looked got s) t log done))
 move_does {rules} {moment} (takes_held {s} {t} {log} next done) = takes_finding rules moment s.held.finding s t log refl done
 move_does {rules} {moment} (does_line {s} {t} {log} next done) = by_part _ no_call (cut_part (cut_line s.rest) rules moment s t log done)
 move_does {rules} {moment} (hears_supervisor {s} {t} {log} next done) = by_part _ no_call (hear_part rules moment s t log done)

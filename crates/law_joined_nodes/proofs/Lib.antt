@@ -18,3 +18,4 @@ pub mod Moving
 pub mod Still
 pub mod Runs
 pub mod Logging
+pub mod PouredLogging

@@ -9,6 +9,7 @@ use Rattle.line_outside.specs.declared.way.Way.{Way}
 use Rattle.line_outside.specs.declared.way.Way.TheVariants as ways
 use Rattle.board_record.specs.declared.sensed.Sensed.{Sensed}
 use Rattle.line_world.specs.FloorPlan.{FloorPlan}
+use Rattle.line_world.specs.declared.moves.Move.{Move}
 use Rattle.line_base.specs.declared.states.Role.TheVariants.{Upstream}
 use Rattle.node_core.specs.Node.{NodeState}
 use Rattle.node_core.specs.Sides.{is_open}
@@ -25,6 +26,7 @@ use Rattle.node_run.specs.declared.place.Next.TheVariants as nexts
 use Rattle.law_running_line.specs.New.{IsNew, NumbersDiffer}
 use Rattle.law_running_line.specs.Reading.{Reading}
 use Rattle.law_running_line.specs.Running.{Running, with_floor}
+use Rattle.law_running_line.specs.RunSteps.{LetsBe, Moves as BoardMoves}
 use Rattle.law_running_line.specs.Stands.{AreInRelation, line_of}
 use Rattle.law_running_line.specs.Timed.{AreRelated}
 use Rattle.law_joined_nodes.specs.Does.{Does, Makes, Taken}
@@ -62,7 +64,7 @@ calm_answers machine (Polls way room found ∷ []) line calm = calm_found machin
 calm_answers machine (Polls way room found ∷ (next ∷ more)) line calm = tt
 calm_answers machine (given ∷ more) line calm = tt
 
-can_answer : {machine place : ℕ} {given : List Given} {taken : Option Taken} {i : Joined}
+pub can_answer : {machine place : ℕ} {given : List Given} {taken : Option Taken} {i : Joined}
     {p q : Pipes} {run : NodeRun} {moment : ℤ} {next : RunState} {log : List ℕ}
     → Flows machine place given taken p q → Books i p → run_of machine i ≡ Some run
     → Moves run.rules moment run.state given next log → CanAnswer machine given i.line
@@ -177,7 +179,7 @@ pub record On (reading : Reading) (i : Joined) (told : List Act) (j : Joined)
   pub joins : Joins reading j
   pub books : Books j q
 
-node_of_pours : {reading : Reading} {m : ℕ} {i j : Joined} {told : List Act} {p q : Pipes}
+unfoldable pub node_of_pours : {reading : Reading} {m : ℕ} {i j : Joined} {told : List Act} {p q : Pipes}
     → Books i p → (g : Pours reading m i j told p q) → NodeMoves reading m g.does.taken i j told
 node_of_pours books g = record {
   run = g.run;
@@ -203,7 +205,7 @@ books_of_pours {reading} {m} {i} {j} {told} books g before joins =
     (known_of m (record { rules = g.run.rules; state = g.next }) joins
     (own_there m g.run g.next i j g.there g.after_is)) books
 
-pours_on : {reading : Reading} {m : ℕ} {i j : Joined} {told : List Act} {p q : Pipes}
+pub pours_on : {reading : Reading} {m : ℕ} {i j : Joined} {told : List Act} {p q : Pipes}
     → GoesOn reading → Joins reading i → Books i p → Pours reading m i j told p q
     → On reading i told j q
 pours_on {m = m} {j = j} goes joins books g =
@@ -236,18 +238,21 @@ floor_known {m} {run} floor s known = record {
       further_self) known.found;
 }
 
-going_on : {reading : Reading} {gap : ℕ} {i j : Joined} {told : List Act} {p q : Pipes}
-    → GoesOn reading → Joins reading i → Books i p → PoursGoing reading gap i j told p q
-    → On reading i told j q
-going_on {reading} {gap} {i} {j} {told} {p} goes joins books g =
+-- the floor on which the board has begun
+pub going_books : {reading : Reading} {gap : ℕ} {i j : Joined} {told : List Act} {p q : Pipes}
+    → Books i p → (g : PoursGoing reading gap i j told p q)
+    → Books (record i { line = with_floor g.floor i.line }) p
+going_books {i = i} books g =
+    lets_books (with_floor g.floor i.line) (floor_lets g.floor i.line) books
+
+unfoldable pub letting_go : {reading : Reading} {gap : ℕ} {i j : Joined} {told : List Act} {p q : Pipes}
+    → Books i p → (g : PoursGoing reading gap i j told p q)
+    → LetsGoRead reading gap g.taken i j told
+letting_go {reading} {gap} {i} {j} {told} books g =
     let mid : Joined = record i { line = with_floor g.floor i.line } in
-    let mid_books : Books mid p =
-    lets_books (with_floor g.floor i.line) (floor_lets g.floor i.line) books in
     let moves : NodeMoves reading gap g.moves.does.taken mid j told =
-    node_of_pours mid_books g.moves in
-    let taken : NodeMoves reading gap (Some g.taken) mid j told =
-    subst (λ (t : Option Taken). NodeMoves reading gap t mid j told) g.is moves in
-    let lets_go : LetsGoRead reading gap g.taken i j told = record {
+    node_of_pours (going_books books g) g.moves in
+    record {
       run = g.run;
       there = g.there;
       board = g.board;
@@ -255,17 +260,40 @@ going_on {reading} {gap} {i} {j} {told} {p} goes joins books g =
       read = g.read;
       floor = g.floor;
       begins = g.begins;
-      moves = taken;
+      moves = record {
+        run = moves.run;
+        there = moves.there;
+        next = moves.next;
+        moment = moves.moment;
+        given = moves.given;
+        log = moves.log;
+        moves = moves.moves;
+        does =
+            subst (λ (t : Option Taken).
+            Does moves.moment moves.run.state moves.next moves.given t) g.is moves.does;
+        answers = moves.answers;
+        takes =
+            subst (λ (t : Option Taken).
+            TakesIf reading gap moves.moment moves.run.state moves.next moves.given t mid.line
+            j.line told) g.is moves.takes;
+        after_is = moves.after_is;
+      };
       plain = g.plain;
       reads = g.reads;
-    } in
+    }
+
+pub going_on : {reading : Reading} {gap : ℕ} {i j : Joined} {told : List Act} {p q : Pipes}
+    → GoesOn reading → Joins reading i → Books i p → PoursGoing reading gap i j told p q
+    → On reading i told j q
+going_on {reading} {gap} {i} {j} {told} goes joins books g =
+    let lets_go : LetsGoRead reading gap g.taken i j told = letting_go books g in
     let next : Joins reading j = (go_step goes joins lets_go).joins in
     let known : Known gap g.moves.run (with_floor g.floor i.line) =
     floor_known g.floor i.line (known_of gap g.moves.run joins g.moves.there) in
     record {
       weaves = goes_read lets_go;
       joins = next;
-      books = books_of_pours mid_books g.moves known next;
+      books = books_of_pours (going_books books g) g.moves known next;
     }
 
 -- no run changes
@@ -275,17 +303,20 @@ runs_same i j {p} same books =
     subst (λ (runs : List NodeRun). Books (record { runs = runs; line = j.line }) p)
     (sym same) books
 
-step_on : {reading : Reading} {i j : Joined} {told : List Act} {p q : Pipes} → GoesOn reading
-    → Joins reading i → Books i p → Poured reading i p told j q → On reading i told j q
-step_on goes joins books (node_pours g) = pours_on goes joins books g
-step_on goes joins books (goes_poured g) = going_on goes joins books g
-step_on {i = i} {j} goes joins books (is_lost l same) =
+pub lost_on : {reading : Reading} {machine : ℕ} {side : Side} {i j : Joined} {p : Pipes}
+    → GoesOn reading → Joins reading i → Books i p → LetsBe machine side i.line j.line
+    → j.runs ≡ i.runs → On reading i [] j p
+lost_on {i = i} {j} goes joins books l same =
     record {
       weaves = loses l same;
       joins = (lost_step goes joins l same).joins;
       books = runs_same i j same (lets_books j.line (lost_lets l) books);
     }
-step_on {i = i} {j} goes joins books (board_moves b same) =
+
+pub board_on : {reading : Reading} {gap : ℕ} {step : Move} {i j : Joined} {p : Pipes}
+    → GoesOn reading → Joins reading i → Books i p → BoardMoves reading gap step i.line j.line
+    → j.runs ≡ i.runs → On reading i [] j p
+board_on {i = i} {j} goes joins books b same =
     record {
       weaves = moves_board b same;
       joins = (board_step goes joins b same).joins;
@@ -293,6 +324,13 @@ step_on {i = i} {j} goes joins books (board_moves b same) =
           (lets_books j.line
           (subst (Lets i.line) (sym b.after_is) (floor_lets b.floor i.line)) books);
     }
+
+step_on : {reading : Reading} {i j : Joined} {told : List Act} {p q : Pipes} → GoesOn reading
+    → Joins reading i → Books i p → Poured reading i p told j q → On reading i told j q
+step_on goes joins books (node_pours g) = pours_on goes joins books g
+step_on goes joins books (goes_poured g) = going_on goes joins books g
+step_on goes joins books (is_lost l same) = lost_on goes joins books l same
+step_on goes joins books (board_moves b same) = board_on goes joins books b same
 
 poured_on : {reading : Reading} {i u : Joined} {told : List Act} {p q : Pipes} → GoesOn reading
     → Joins reading i → Books i p → PouredTo reading i p told u q → WovenTo reading i told u

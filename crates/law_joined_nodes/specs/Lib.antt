@@ -7,3 +7,4 @@ pub mod Laws
 pub mod Pipes
 pub mod Poured
 pub mod Logged
+pub mod PouredLog

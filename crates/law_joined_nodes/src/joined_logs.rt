@@ -2,6 +2,7 @@
 
 ghost use Rattle.law_running_line.specs.Reading.{Behind, Reading};
 ghost use Rattle.law_joined_nodes.specs.Logged.{IsWovenToo, NodesLogRight};
+ghost use Rattle.law_joined_nodes.specs.PouredLog.{IsPouredToo, PouredLogRight};
 
 /// A woven run with its merged log is a woven run.
 pub fn a_run_with_its_log_is_woven()
@@ -15,6 +16,20 @@ pub fn a_run_with_its_log_is_woven()
 /// standing.
 pub fn the_merged_log_of_woven_nodes_is_right()
     ensures { NodesLogRight Behind }
+{
+    law_running_line::laws::the_relation_goes_on_behind_the_reading();
+    law_running_logs::laws::the_merged_log_of_a_run_behind_the_reading_is_right();
+}
+
+/// A run over TCP with its merged log is a run over TCP.
+pub fn a_run_over_tcp_with_its_log_is_one()
+    ensures { (reading : Reading) → IsPouredToo reading }
+{}
+
+/// And so it is where of the connections between the nodes no more is known than what TCP gives, and
+/// no side that has one is reset: nothing is against what they log.
+pub fn the_merged_log_over_tcp_is_right()
+    ensures { PouredLogRight Behind }
 {
     law_running_line::laws::the_relation_goes_on_behind_the_reading();
     law_running_logs::laws::the_merged_log_of_a_run_behind_the_reading_is_right();

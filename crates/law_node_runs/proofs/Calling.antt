@@ -35,7 +35,7 @@ step_of_way ways.Downstream value s = refl
 step_of_way ways.Supervisory value s = refl
 step_of_way ways.Configuration value s = refl
 
-step_of_send : (way : Way) (sent : Sent) (s : RunState) → (after_send way sent s).step ≡ s.step
+pub step_of_send : (way : Way) (sent : Sent) (s : RunState) → (after_send way sent s).step ≡ s.step
 step_of_send way (sents.Took n) s = step_of_way way _ s
 step_of_send way sents.NotYet s = refl
 step_of_send way sents.Closed s = step_of_way way _ s

@@ -5,6 +5,7 @@ use Rattle.std.proofs.lemmas.Bool.{true≢false}
 use Rattle.line_base.specs.declared.states.Side.{Side}
 use Rattle.line_base.specs.declared.states.Side.TheVariants.{Entry, Exit}
 use Rattle.board_record.specs.declared.sensed.Sensed.{Sensed}
+use Rattle.book_entry.specs.Given.{entry_of}
 use Rattle.line_outside.specs.declared.ports.Sent.TheVariants as sents
 use Rattle.line_outside.specs.declared.way.Way.TheVariants as ways
 use Rattle.node_core.specs.May.{may_do, may_of, may_reach, no_if}
@@ -21,9 +22,11 @@ use Rattle.step_rules.specs.Opened.{open_after, opened_by}
 use Rattle.step_rules.proofs.Once.{closed-stays}
 use Rattle.step_rules.proofs.Opening.{steps_open}
 use Rattle.machine_log.specs.Account.{AreProper}
+use Rattle.machine_log.specs.Drives.{drives_after}
+use Rattle.machine_log.specs.declared.drives.Drives.{Drives}
 use Rattle.node_run.specs.After.{way_of}
 use Rattle.node_run.specs.Held.{Finding}
-use Rattle.node_run.specs.State.{RunState, way_at}
+use Rattle.node_run.specs.State.{RunState, one_more, way_at}
 use Rattle.node_run.specs.Steps.{messages_for}
 use Rattle.machine_log.specs.Texts.{lines_of}
 use Rattle.node_run.specs.declared.rules.Rules.{Rules}
@@ -76,15 +79,17 @@ pub record Same (s t : RunState) : Type 0 where
   pub up : t.upstream.unsent ≡ s.upstream.unsent
   pub down : t.downstream.unsent ≡ s.downstream.unsent
   pub held : t.held.finding ≡ s.held.finding
+  pub step : t.step ≡ s.step
+  pub drives : t.drives ≡ s.drives
 
 pub same_self : {s : RunState} → Same s s
-same_self = record { node = refl; up = refl; down = refl; held = refl }
+same_self = record { node = refl; up = refl; down = refl; held = refl; step = refl; drives = refl }
 
 pub same_is : {s u t : RunState} → t ≡ u → Same s u → Same s t
 same_is {s} is same = subst (λ (r : RunState). Same s r) (sym is) same
 
 pub same_then : {s u t : RunState} → Same s u → Same u t → Same s t
-same_then one two = record { node = two.node ∙ one.node; up = two.up ∙ one.up; down = two.down ∙ one.down; held = two.held ∙ one.held }
+same_then one two = record { node = two.node ∙ one.node; up = two.up ∙ one.up; down = two.down ∙ one.down; held = two.held ∙ one.held; step = two.step ∙ one.step; drives = two.drives ∙ one.drives }
 
 same_unsent : {s t : RunState} (side : Side) → Same s t → (way_at (way_of side) t).unsent ≡ (way_at (way_of side) s).unsent
 same_unsent Entry same = same.up
@@ -112,6 +117,8 @@ pub record Stepped (rules : Rules) (input : Input) (s t : RunState) (log : List 
   pub up : t.upstream.unsent ≡ s.upstream.unsent ++ messages_for Entry (acts_for input told)
   pub down : t.downstream.unsent ≡ s.downstream.unsent ++ messages_for Exit (acts_for input told)
   pub held : t.held.finding ≡ s.held.finding
+  pub step : t.step ≡ one_more (entry_of sensed input moment) s.step
+  pub drives : t.drives ≡ drives_after s.drives told
 
 pub stepped_from : {rules : Rules} {input : Input} {s u t : RunState} {log : List ℕ} → Same s u → Stepped rules input u t log → Stepped rules input s t log
 stepped_from {input = input} {t = t} same st = record {
@@ -126,6 +133,8 @@ stepped_from {input = input} {t = t} same st = record {
   up = st.up ∙ ap (λ (text : List ℕ). text ++ messages_for Entry (acts_for input st.told)) same.up;
   down = st.down ∙ ap (λ (text : List ℕ). text ++ messages_for Exit (acts_for input st.told)) same.down;
   held = st.held ∙ same.held;
+  step = st.step ∙ ap (one_more (entry_of st.sensed input st.moment)) same.step;
+  drives = st.drives ∙ ap (λ (d : Drives). drives_after d st.told) same.drives;
 }
 
 pub step_unsent : {rules : Rules} {input : Input} {s t : RunState} {log : List ℕ} (side : Side) (st : Stepped rules input s t log) → (way_at (way_of side) t).unsent ≡ (way_at (way_of side) s).unsent ++ messages_for side (acts_for input st.told)

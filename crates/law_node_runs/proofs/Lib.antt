@@ -25,3 +25,6 @@ pub mod Parts
 pub mod Polled
 pub mod Pieces
 pub mod Whole
+pub mod Driven
+pub mod PowerCut
+pub mod OldBytes

@@ -1,6 +1,7 @@
 -- WHAT A MOVE DOES TO THE CONNECTIONS of both sides: its call, and the step behind that.
 use Rattle.std.proofs.Common.{◌⊎◌, inl, inr, ◌≡◌, ◌∙◌, refl, sym, ap, subst, ℕ, ℤ, Bool, true, false, List, [], ◌∷◌, ◌++◌, Option, None, Some, Result, Ok, Err, append_assoc, append-nil, drop, take}
 use Rattle.std.specs.Borrow.{Bor}
+use Rattle.book_entry.specs.Given.{entry_of}
 use Rattle.std.proofs.lemmas.Bool.{true≢false}
 use Rattle.std.proofs.lemmas.List.{take-append-drop}
 use Rattle.line_base.specs.declared.states.Side.{Side}
@@ -17,6 +18,8 @@ use Rattle.line_outside.specs.declared.way.Address.{Address}
 use Rattle.line_outside.specs.declared.way.Way.{Way}
 use Rattle.line_outside.specs.declared.way.Way.TheVariants as ways
 use Rattle.config_service.specs.declared.message.Settings.{Settings}
+use Rattle.machine_log.specs.Drives.{drives_after}
+use Rattle.machine_log.specs.declared.drives.Drives.{Drives}
 use Rattle.node_core.specs.May.{may_do, may_of}
 use Rattle.node_core.specs.Node.{NodeState}
 use Rattle.node_core.specs.Sides.{is_open}
@@ -30,17 +33,19 @@ use Rattle.node_run.specs.After.{AfterClose, AfterDownstream, AfterPoll, AfterUp
 use Rattle.node_run.specs.Held.{Finding, holds, nothing_held}
 use Rattle.node_run.specs.Configuring.{AfterTry}
 use Rattle.node_run.specs.Lines.{cut_line}
-use Rattle.node_run.specs.Next.{moved_on}
+use Rattle.node_run.specs.Next.{moved_on, next_of}
 use Rattle.node_run.specs.Owning.{IsAnswer, TellsActs, answer_lines, step_lines}
 use Rattle.node_run.specs.Runs.{Moves, closes, connects, does_config, does_hear, does_line, listens, looks_again, polls, refuses as refuses_second, resets_side, room_bytes, sends, skips, takes_held, tries_port}
-use Rattle.node_run.specs.State.{RunState, at_rest, way_at, with_wire}
+use Rattle.node_run.specs.State.{RunState, WayValue, at_rest, one_more, way_at, with_way, with_wire}
 use Rattle.node_run.specs.Resetting.{ResetsSide, leaving, reset_begun, reset_text}
 use Rattle.supervised_end.specs.Channel.{no_session}
 use Rattle.node_run.specs.Steps.{Takes}
+use Rattle.node_run.specs.declared.place.Next.{Next}
 use Rattle.node_run.specs.declared.place.Next.TheVariants as nexts
 use Rattle.node_run.specs.declared.way_state.Wire.TheVariants as wires
 use Rattle.law_node_runs.specs.Connections.{Connection, InOrderAlong, IsFront, call_does, does, heard_by, step_does}
-use Rattle.law_node_runs.specs.Doings.{Doing, StepsAlong, acts_in, at_end, called, calls, calls_in, reset, says, stepped, steps}
+use Rattle.law_node_runs.specs.Doings.{Doing, MoveDoes, a_reset, acts_in, calls, no_step, one_step, reset_of, says, steps}
+use Rattle.law_node_runs.proofs.Calling.{step_of_send}
 use Rattle.law_node_runs.proofs.Holding.{Holds, Pending, Same, Stepped, all_heard, any_pending, cut_off, held_by, held_for, in_order, is_reached, is_unreached, opens_at, same_holds, same_is, same_self, step_holds, step_sent, stays_closed}
 use Rattle.law_node_runs.proofs.Parts.{IsAside, Part, answers, config_same, configuration_same, cut_part, hear_part, meets_part, panel_part, quiet, step_part, steps as part_steps, supervisory_same, takes_part, try_same, unsupervised_part}
 use Rattle.law_node_runs.proofs.Polled.{none_held}
@@ -55,7 +60,7 @@ done_all side (doing ∷ others) c = done_all side others (does side doing c)
 pub record Tells (rules : Rules) (log : List ℕ) (told : List Act) : Type 0 where
   pub behind : (before : List ℕ) (acts : List Act) → TellsActs rules before acts → TellsActs rules (before ++ log) (acts ++ told)
 
-tells_none : (rules : Rules) (log : List ℕ) → log ≡ [] → Tells rules log []
+pub tells_none : (rules : Rules) (log : List ℕ) → log ≡ [] → Tells rules log []
 tells_none rules log none = record {
   behind = λ before acts tells.
       subst (λ (text : List ℕ). TellsActs rules (before ++ text) (acts ++ [])) (sym none)
@@ -78,13 +83,9 @@ tells_step {rules = rules} {log = log} st = record {
 
 pub record Behind (rules : Rules) (side : Side → Bool) (s t : RunState) (log : List ℕ) : Type 0 where
   pub more : List Doing
-  pub none : calls_in more ≡ []
-  pub along : StepsAlong s.node more t.node
+  pub along : MoveDoes None s t [] more
   pub tells : Tells rules log (acts_in more)
   pub keeps : (at : Side) (c : Connection) → Holds (side at) at s c → InOrderAlong at c more × Holds false at t (done_all at more c)
-
-along_none : {s t : RunState} → Same s t → StepsAlong s.node [] t.node
-along_none {s} same = subst (λ (n : NodeState). StepsAlong s.node [] n) (sym same.node) at_end
 
 weaker : {opens : Bool} {side : Side} {s : RunState} {c : Connection} → Holds opens side s c → Holds false side s c
 weaker kept = record { sent = kept.sent; heard = any_pending kept.heard }
@@ -92,8 +93,7 @@ weaker kept = record { sent = kept.sent; heard = any_pending kept.heard }
 quiet_behind : {opened : Side → Bool} {rules : Rules} {s t : RunState} {log : List ℕ} → Tells rules log [] → Same s t → Behind rules opened s t log
 quiet_behind tells same = record {
   more = [];
-  none = refl;
-  along = along_none same;
+  along = no_step same.step same.node same.drives;
   tells = tells;
   keeps = λ at c kept. (in_order kept, weaker (same_holds same kept));
 }
@@ -102,8 +102,7 @@ quiet_behind tells same = record {
 step_behind : {rules : Rules} {s t : RunState} {log : List ℕ} (input : Input) → ((side : Side) → heard_by side input ≡ []) → Stepped rules input s t log → Behind rules (λ at. opens_at at input) s t log
 step_behind input dry st = record {
   more = steps input st.told ∷ [];
-  none = refl;
-  along = stepped st.sensed st.moment st.may st.steps at_end;
+  along = one_step refl st.step st.may st.steps st.drives;
   tells = tells_step st;
   keeps = λ at c kept. (let behind = step_holds at st (dry at) kept in ((in_order kept, in_order behind), behind));
 }
@@ -130,7 +129,6 @@ none_opens side = false
 closed_behind : {opened : Side → Bool} {rules : Rules} {s t : RunState} {log : List ℕ} → ((side : Side) → opened side ≡ false) → Behind rules opened s t log → Behind rules none_opens s t log
 closed_behind {opened} {rules} {s} {t} {log} none b = record {
   more = b.more;
-  none = b.none;
   along = b.along;
   tells = b.tells;
   keeps = λ at c kept. b.keeps at c (subst (λ (opens : Bool). Holds opens at s c) (sym (none at)) kept);
@@ -220,8 +218,7 @@ taken_behind {rules} {s} {t} {log} side bytes piece is held st =
     let opened : is_open side s.node.lane.body ≡ true = is_reached side s.node.lane.body st.may in
     record {
       more = steps (inputs.Bytes side piece) st.told ∷ [];
-      none = refl;
-      along = stepped st.sensed st.moment st.may st.steps at_end;
+      along = one_step refl st.step st.may st.steps st.drives;
       tells = tells_step st;
       keeps = λ at c kept. (
           let behind : Holds false at t (step_does at (inputs.Bytes side piece) st.told c) = record {
@@ -238,8 +235,7 @@ taken_behind {rules} {s} {t} {log} side bytes piece is held st =
 dropped_behind : {rules : Rules} {s t : RunState} {log : List ℕ} (side : Side) (bytes : List ℕ) → heard_at (Some bytes) side s → is_open side s.node.lane.body ≡ false → t ≡ with_held nothing_held s → log ≡ [] → Behind rules none_opens s t log
 dropped_behind {rules} {s} {t} {log} side bytes held closed is none = record {
   more = [];
-  none = refl;
-  along = subst (λ (r : RunState). StepsAlong s.node [] r.node) (sym is) at_end;
+  along = no_step (ap (λ (r : RunState). r.step) is) (ap (λ (r : RunState). r.node) is) (ap (λ (r : RunState). r.drives) is);
   tells = tells_none rules log none;
   keeps = λ at c kept. (in_order kept, subst (λ (r : RunState). Holds false at r c) (sym is) (record { sent = kept_sent at c.said c.taken kept.sent; heard = dropped_pending side at bytes held (other_or_closed side at bytes s closed) kept.heard }));
 } where
@@ -255,8 +251,8 @@ bytes_behind {rules} {s} {t} {log} moment (Err why) side bytes piece is held may
 
 -- an end that was found
 broken_same : (side : Side) (test : Bool) (s : RunState) → Same s (broken (way_of side) test s)
-broken_same Entry true s = record { node = refl; up = refl; down = refl; held = refl }
-broken_same Exit true s = record { node = refl; up = refl; down = refl; held = refl }
+broken_same Entry true s = record { node = refl; up = refl; down = refl; held = refl; step = refl; drives = refl }
+broken_same Exit true s = record { node = refl; up = refl; down = refl; held = refl; step = refl; drives = refl }
 broken_same side false s = same_self
 
 -- a state in which what is held says nothing, behind one in which it is an end, or nothing
@@ -267,8 +263,7 @@ end_pending at none held node (cut_off plain front closed) = cut_off refl front 
 end_behind : {rules : Rules} {s t : RunState} {log : List ℕ} → ((at : Side) → held_for at s.held.finding ≡ []) → Same (with_held nothing_held s) t → log ≡ [] → Behind rules none_opens s t log
 end_behind {rules} {s} {t} {log} none same silent = record {
   more = [];
-  none = refl;
-  along = subst (λ (n : NodeState). StepsAlong s.node [] n) (sym same.node) at_end;
+  along = no_step same.step same.node same.drives;
   tells = tells_none rules log silent;
   keeps = λ at c kept. (in_order kept, record { sent = kept_sent at c.said c.taken kept.sent; heard = end_pending at (none at) same.held same.node kept.heard });
 } where
@@ -298,26 +293,32 @@ held_behind {s = s} moment takes = finding_behind moment s.held.finding refl tak
 -- ---- a call
 
 -- a move with its call: what it does, and what the log tells
-pub record Piece (rules : Rules) (s t : RunState) (given : List Given) (log : List ℕ) : Type 0 where
+pub record Piece (resets : Option Side) (rules : Rules) (s t : RunState) (given : List Given) (log : List ℕ) : Type 0 where
   pub more : List Doing
-  pub calls_are : calls_in more ≡ given
-  pub along : StepsAlong s.node more t.node
+  pub along : MoveDoes resets s t given more
   pub tells : Tells rules log (acts_in more)
   pub keeps : (at : Side) (c : Connection) → Holds false at s c → InOrderAlong at c more × Holds false at t (done_all at more c)
 
-piece_none : {rules : Rules} {s t : RunState} {log : List ℕ} → Behind rules none_opens s t log → Piece rules s t [] log
-piece_none b = record { more = b.more; calls_are = b.none; along = b.along; tells = b.tells; keeps = b.keeps }
+piece_none : {rules : Rules} {s t : RunState} {log : List ℕ} → Behind rules none_opens s t log → Piece None rules s t [] log
+piece_none b = record { more = b.more; along = b.along; tells = b.tells; keeps = b.keeps }
 
 -- the state behind a call, whose side may be opened by the step that follows
 record Called (opened : Side → Bool) (s u : RunState) (given : Given) : Type 0 where
   node : u.node ≡ s.node
+  step : u.step ≡ s.step
+  drives : u.drives ≡ s.drives
   keeps : (at : Side) (c : Connection) → Holds false at s c → Holds (opened at) at u (call_does (way_of at) given c)
 
-piece_call : {opened : Side → Bool} {rules : Rules} {s u t : RunState} {given : Given} {log : List ℕ} → Called opened s u given → Behind rules opened u t log → Piece rules s t (given ∷ []) log
-piece_call {s = s} {t = t} {given = given} call b = record {
+call_first : {s u t : RunState} {given : Given} {more : List Doing} → u.node ≡ s.node → u.step ≡ s.step → u.drives ≡ s.drives → MoveDoes None u t [] more → MoveDoes None s t (given ∷ []) (calls given ∷ more)
+call_first node step drives (no_step same still driven) = no_step (same ∙ step) (still ∙ node) (driven ∙ drives)
+call_first {t = t} node step drives (one_step {read} {input} {at} {acts} none made may does driven) =
+    one_step none (made ∙ ap (one_more (entry_of read input at)) step) (ap (λ (n : NodeState). may_of n input) (sym node) ∙ may) (subst (λ (n : NodeState). Steps n read input at t.node acts) node does) (driven ∙ ap (λ (d : Drives). drives_after d acts) drives)
+call_first node step drives (a_reset some made may does driven) = cc
+
+piece_call : {opened : Side → Bool} {rules : Rules} {s u t : RunState} {given : Given} {log : List ℕ} → Called opened s u given → Behind rules opened u t log → Piece None rules s t (given ∷ []) log
+piece_call {given = given} call b = record {
   more = calls given ∷ b.more;
-  calls_are = ap (λ (l : List Given). given ∷ l) b.none;
-  along = called (subst (λ (n : NodeState). StepsAlong n b.more t.node) call.node b.along);
+  along = call_first call.node call.step call.drives b.along;
   tells = b.tells;
   keeps = λ at c kept. (let then_is = b.keeps at (call_does (way_of at) given c) (call.keeps at c kept) in ((in_order kept, then_is.0), then_is.1));
 }
@@ -326,15 +327,17 @@ piece_call {s = s} {t = t} {given = given} call b = record {
 called_aside : {s u : RunState} {given : Given} → ((at : Side) (c : Connection) → call_does (way_of at) given c ≡ c) → Same s u → Called none_opens s u given
 called_aside {s} {u} {given} aside same = record {
   node = same.node;
+  step = same.step;
+  drives = same.drives;
   keeps = λ at c kept. subst (λ (d : Connection). Holds false at u d) (sym (aside at c)) (same_holds same kept);
 }
 
 same_moved : {s : RunState} → Same s (moved_on s)
-same_moved = record { node = refl; up = refl; down = refl; held = refl }
+same_moved = record { node = refl; up = refl; down = refl; held = refl; step = refl; drives = refl }
 
 listened_same : (address : Address) (opened : Opened) (s : RunState) → Same s (after_listen address opened s)
-listened_same address openings.Done s = record { node = refl; up = refl; down = refl; held = refl }
-listened_same address openings.Failed s = record { node = refl; up = refl; down = refl; held = refl }
+listened_same address openings.Done s = record { node = refl; up = refl; down = refl; held = refl; step = refl; drives = refl }
+listened_same address openings.Failed s = record { node = refl; up = refl; down = refl; held = refl; step = refl; drives = refl }
 
 listen_aside : (way : Way) (address : Address) (opened : Opened) (at : Side) (c : Connection) → call_does (way_of at) (Listens way address opened) c ≡ c
 listen_aside way address opened Entry c = refl
@@ -364,7 +367,7 @@ configuration_poll_aside found Exit c = refl
 
 -- what arrives there begins anew
 arrives : (opened : Side → Bool) (side : Side) (s : RunState) → s.held.finding ≡ None → ((at : Side) → (opened at ≡ false) ⊎ (at ≡ side)) → Called opened s (moved_on s) (Polls (way_of side) room_bytes founds.Arrived)
-arrives opened side s none others = record { node = refl; keeps = λ at c kept. kept_by at side c kept (others at) } where
+arrives opened side s none others = record { node = refl; step = refl; drives = refl; keeps = λ at c kept. kept_by at side c kept (others at) } where
   fresh : (at : Side) (c : Connection) → Holds false at s c → Holds (opened at) at (moved_on s) (record c { given = []; heard = [] })
   fresh Entry c kept = record { sent = kept.sent; heard = all_heard (ap (held_for Entry) (sym none)) }
   fresh Exit c kept = record { sent = kept.sent; heard = all_heard (ap (held_for Exit) (sym none)) }
@@ -382,7 +385,7 @@ arrives opened side s none others = record { node = refl; keeps = λ at c kept. 
 
 -- bytes are held
 gives : (side : Side) (bytes : List ℕ) (s : RunState) → s.held.finding ≡ None → Called none_opens s (with_held (holds side (Some bytes)) (moved_on s)) (Polls (way_of side) room_bytes (founds.Bytes bytes))
-gives side bytes s none = record { node = refl; keeps = λ at c kept. kept_by side at c kept } where
+gives side bytes s none = record { node = refl; step = refl; drives = refl; keeps = λ at c kept. kept_by side at c kept } where
   more : (at : Side) {given heard : List ℕ} → held_by at at (Some bytes) ≡ bytes → Pending false at s given heard → Pending false at (with_held (holds at (Some bytes)) (moved_on s)) (given ++ bytes) heard
   more at {given} {heard} own (all_heard is) =
       all_heard (ap (λ (text : List ℕ). text ++ bytes) (is ∙ ap (λ (f : Option Finding). heard ++ held_for at f) none ∙ append-nil heard) ∙ ap (λ (text : List ℕ). heard ++ text) (sym own))
@@ -402,7 +405,7 @@ gives side bytes s none = record { node = refl; keeps = λ at c kept. kept_by si
 -- an end is held, or nothing is found
 finds : (side : Side) (found : GotBytes) (s u : RunState) → ((c : Connection) → (at : Side) → call_does (way_of at) (Polls (way_of side) room_bytes found) c ≡ c) → s.held.finding ≡ None → ((at : Side) → held_for at u.held.finding ≡ []) → Same (with_held nothing_held s) (with_held nothing_held u)
     → Called none_opens s u (Polls (way_of side) room_bytes found)
-finds side found s u aside none silent same = record { node = same.node; keeps = λ at c kept. subst (λ (d : Connection). Holds false at u d) (sym (aside c at)) (record { sent = sent_by at c.said c.taken kept.sent; heard = heard_by_end at kept.heard }) } where
+finds side found s u aside none silent same = record { node = same.node; step = same.step; drives = same.drives; keeps = λ at c kept. subst (λ (d : Connection). Holds false at u d) (sym (aside c at)) (record { sent = sent_by at c.said c.taken kept.sent; heard = heard_by_end at kept.heard }) } where
   sent_by : (at : Side) (said taken : List ℕ) → said ≡ taken ++ (way_at (way_of at) s).unsent → said ≡ taken ++ (way_at (way_of at) u).unsent
   sent_by Entry said taken is = is ∙ ap (λ (text : List ℕ). taken ++ text) (sym same.up)
   sent_by Exit said taken is = is ∙ ap (λ (text : List ℕ). taken ++ text) (sym same.down)
@@ -450,28 +453,28 @@ exit_alone : (at : Side) → (opens_exit at ≡ false) ⊎ (at ≡ Exit)
 exit_alone Entry = inl refl
 exit_alone Exit = inr refl
 
-upstream_piece : {rules : Rules} {s t : RunState} {log : List ℕ} (moment : ℤ) (found : GotBytes) → s.held.finding ≡ None → AfterUpstream rules moment found (moved_on s) t log → Piece rules s t (Polls ways.Upstream room_bytes found ∷ []) log
+upstream_piece : {rules : Rules} {s t : RunState} {log : List ℕ} (moment : ℤ) (found : GotBytes) → s.held.finding ≡ None → AfterUpstream rules moment found (moved_on s) t log → Piece None rules s t (Polls ways.Upstream room_bytes found ∷ []) log
 upstream_piece {rules} {s} {t} {log} moment founds.Arrived none after =
     piece_call (arrives opens_entry Entry s none entry_alone)
-    (connect_behind (takes_part (may_of s.node inputs.Connect) rules moment inputs.Connect (with_wire ways.Upstream wires.Stands (moved_on s)) (moved_on s) t log refl (λ told. refl) refl (record { node = refl; up = refl; down = refl; held = refl }) after))
-upstream_piece {s = s} moment founds.Second none after = piece_call (finds Entry founds.Second s (moved_on s) (second_aside Entry) none (silent_before s none) (record { node = refl; up = refl; down = refl; held = refl })) (quiet_same after.0 after.1)
+    (connect_behind (takes_part (may_of s.node inputs.Connect) rules moment inputs.Connect (with_wire ways.Upstream wires.Stands (moved_on s)) (moved_on s) t log refl (λ told. refl) refl (record { node = refl; up = refl; down = refl; held = refl; step = refl; drives = refl }) after))
+upstream_piece {s = s} moment founds.Second none after = piece_call (finds Entry founds.Second s (moved_on s) (second_aside Entry) none (silent_before s none) (record { node = refl; up = refl; down = refl; held = refl; step = refl; drives = refl })) (quiet_same after.0 after.1)
 upstream_piece {s = s} moment (founds.Bytes bytes) none after = piece_call (gives Entry bytes s none) (quiet_same after.0 after.1)
-upstream_piece {s = s} moment founds.NotYet none after = piece_call (finds Entry founds.NotYet s (moved_on s) (none_aside Entry) none (silent_before s none) (record { node = refl; up = refl; down = refl; held = refl })) (quiet_same after.0 after.1)
-upstream_piece {s = s} moment founds.Closed none after = piece_call (finds Entry founds.Closed s (with_held (holds Entry None) (moved_on s)) (closed_aside Entry) none (no_bytes Entry) (record { node = refl; up = refl; down = refl; held = refl })) (quiet_same after.0 after.1)
-upstream_piece {s = s} moment founds.Failed none after = piece_call (finds Entry founds.Failed s (with_held (holds Entry None) (moved_on s)) (failed_aside Entry) none (no_bytes Entry) (record { node = refl; up = refl; down = refl; held = refl })) (quiet_same after.0 after.1)
+upstream_piece {s = s} moment founds.NotYet none after = piece_call (finds Entry founds.NotYet s (moved_on s) (none_aside Entry) none (silent_before s none) (record { node = refl; up = refl; down = refl; held = refl; step = refl; drives = refl })) (quiet_same after.0 after.1)
+upstream_piece {s = s} moment founds.Closed none after = piece_call (finds Entry founds.Closed s (with_held (holds Entry None) (moved_on s)) (closed_aside Entry) none (no_bytes Entry) (record { node = refl; up = refl; down = refl; held = refl; step = refl; drives = refl })) (quiet_same after.0 after.1)
+upstream_piece {s = s} moment founds.Failed none after = piece_call (finds Entry founds.Failed s (with_held (holds Entry None) (moved_on s)) (failed_aside Entry) none (no_bytes Entry) (record { node = refl; up = refl; down = refl; held = refl; step = refl; drives = refl })) (quiet_same after.0 after.1)
 
-downstream_piece : {rules : Rules} {s t : RunState} {log : List ℕ} (moment : ℤ) (found : GotBytes) → s.held.finding ≡ None → AfterDownstream rules moment found (moved_on s) t log → Piece rules s t (Polls ways.Downstream room_bytes found ∷ []) log
+downstream_piece : {rules : Rules} {s t : RunState} {log : List ℕ} (moment : ℤ) (found : GotBytes) → s.held.finding ≡ None → AfterDownstream rules moment found (moved_on s) t log → Piece None rules s t (Polls ways.Downstream room_bytes found ∷ []) log
 downstream_piece {rules} {s} {t} {log} moment founds.Arrived none after =
     piece_call (arrives opens_exit Exit s none exit_alone)
-    (accepted_behind (takes_part (may_of s.node inputs.Accepted) rules moment inputs.Accepted (with_wire ways.Downstream wires.Stands (moved_on s)) (moved_on s) t log refl (λ told. refl) refl (record { node = refl; up = refl; down = refl; held = refl }) after))
+    (accepted_behind (takes_part (may_of s.node inputs.Accepted) rules moment inputs.Accepted (with_wire ways.Downstream wires.Stands (moved_on s)) (moved_on s) t log refl (λ told. refl) refl (record { node = refl; up = refl; down = refl; held = refl; step = refl; drives = refl }) after))
 downstream_piece {rules} {s} {t} {log} moment founds.Second none after =
-    piece_call (finds Exit founds.Second s (moved_on s) (second_aside Exit) none (silent_before s none) (record { node = refl; up = refl; down = refl; held = refl })) (part_behind (meets_part rules moment (moved_on s) t log after))
+    piece_call (finds Exit founds.Second s (moved_on s) (second_aside Exit) none (silent_before s none) (record { node = refl; up = refl; down = refl; held = refl; step = refl; drives = refl })) (part_behind (meets_part rules moment (moved_on s) t log after))
 downstream_piece {s = s} moment (founds.Bytes bytes) none after = piece_call (gives Exit bytes s none) (quiet_same after.0 after.1)
-downstream_piece {s = s} moment founds.NotYet none after = piece_call (finds Exit founds.NotYet s (moved_on s) (none_aside Exit) none (silent_before s none) (record { node = refl; up = refl; down = refl; held = refl })) (quiet_same after.0 after.1)
-downstream_piece {s = s} moment founds.Closed none after = piece_call (finds Exit founds.Closed s (with_held (holds Exit None) (moved_on s)) (closed_aside Exit) none (no_bytes Exit) (record { node = refl; up = refl; down = refl; held = refl })) (quiet_same after.0 after.1)
-downstream_piece {s = s} moment founds.Failed none after = piece_call (finds Exit founds.Failed s (with_held (holds Exit None) (moved_on s)) (failed_aside Exit) none (no_bytes Exit) (record { node = refl; up = refl; down = refl; held = refl })) (quiet_same after.0 after.1)
+downstream_piece {s = s} moment founds.NotYet none after = piece_call (finds Exit founds.NotYet s (moved_on s) (none_aside Exit) none (silent_before s none) (record { node = refl; up = refl; down = refl; held = refl; step = refl; drives = refl })) (quiet_same after.0 after.1)
+downstream_piece {s = s} moment founds.Closed none after = piece_call (finds Exit founds.Closed s (with_held (holds Exit None) (moved_on s)) (closed_aside Exit) none (no_bytes Exit) (record { node = refl; up = refl; down = refl; held = refl; step = refl; drives = refl })) (quiet_same after.0 after.1)
+downstream_piece {s = s} moment founds.Failed none after = piece_call (finds Exit founds.Failed s (with_held (holds Exit None) (moved_on s)) (failed_aside Exit) none (no_bytes Exit) (record { node = refl; up = refl; down = refl; held = refl; step = refl; drives = refl })) (quiet_same after.0 after.1)
 
-poll_piece : {rules : Rules} {s t : RunState} {log : List ℕ} (moment : ℤ) (way : Way) (found : GotBytes) → s.held.finding ≡ None → AfterPoll rules moment way found (moved_on s) t log → Piece rules s t (Polls way room_bytes found ∷ []) log
+poll_piece : {rules : Rules} {s t : RunState} {log : List ℕ} (moment : ℤ) (way : Way) (found : GotBytes) → s.held.finding ≡ None → AfterPoll rules moment way found (moved_on s) t log → Piece None rules s t (Polls way room_bytes found ∷ []) log
 poll_piece {rules} {s} {t} {log} moment ways.Panel found none after = piece_call (called_aside (panel_poll_aside found) same_moved) (part_behind (panel_part rules found (moved_on s) t log after))
 poll_piece moment ways.Upstream found none after = upstream_piece moment found none after
 poll_piece moment ways.Downstream found none after = downstream_piece moment found none after
@@ -608,8 +611,21 @@ sent_holds Exit ways.Supervisory sent s c kept = other_sent Exit ways.Supervisor
 sent_holds Entry ways.Configuration sent s c kept = other_sent Entry ways.Configuration sent s c tt kept
 sent_holds Exit ways.Configuration sent s c kept = other_sent Exit ways.Configuration sent s c tt kept
 
-send_piece : {rules : Rules} (way : Way) (sent : Sent) (s : RunState) → Piece rules s (after_send way sent (moved_on s)) (Sends way (way_at way s).unsent sent ∷ []) []
-send_piece way sent s = piece_call (record { node = node_sent way sent (moved_on s); keeps = λ at c kept. sent_holds at way sent s c kept }) (quiet_same refl refl)
+drives_way : (way : Way) (value : WayValue) (s : RunState) → (with_way way value s).drives ≡ s.drives
+drives_way ways.Panel value s = refl
+drives_way ways.Upstream value s = refl
+drives_way ways.Downstream value s = refl
+drives_way ways.Supervisory value s = refl
+drives_way ways.Configuration value s = refl
+
+drives_sent : (way : Way) (sent : Sent) (s : RunState) → (after_send way sent s).drives ≡ s.drives
+drives_sent way (sents.Took n) s = drives_way way _ s
+drives_sent way sents.NotYet s = refl
+drives_sent way sents.Closed s = drives_way way _ s
+drives_sent way sents.Failed s = drives_way way _ s
+
+send_piece : {rules : Rules} (way : Way) (sent : Sent) (s : RunState) → Piece None rules s (after_send way sent (moved_on s)) (Sends way (way_at way s).unsent sent ∷ []) []
+send_piece way sent s = piece_call (record { node = node_sent way sent (moved_on s); step = step_of_send way sent (moved_on s); drives = drives_sent way sent (moved_on s); keeps = λ at c kept. sent_holds at way sent s c kept }) (quiet_same refl refl)
 
 -- ---- closes
 
@@ -631,19 +647,19 @@ found_stays {heard = heard} at node held (all_heard is) = all_heard (is ∙ ap (
 found_stays at node held (cut_off plain front closed) = cut_off refl front (ap (λ (n : NodeState). is_open at n.lane.body) node ∙ closed)
 
 upstream_closed : (s : RunState) → Called none_opens s (record s { upstream = at_rest }) (Closes ways.Upstream)
-upstream_closed s = record { node = refl; keeps = λ at c kept. kept_by at c kept } where
+upstream_closed s = record { node = refl; step = refl; drives = refl; keeps = λ at c kept. kept_by at c kept } where
   kept_by : (at : Side) (c : Connection) → Holds false at s c → Holds false at (record s { upstream = at_rest }) (call_does (way_of at) (Closes ways.Upstream) c)
   kept_by Entry c kept = record { sent = refl; heard = found_stays Entry refl refl kept.heard }
   kept_by Exit c kept = record { sent = kept.sent; heard = found_stays Exit refl refl kept.heard }
 
 downstream_closed : (s : RunState) → Called none_opens s (record s { downstream = at_rest }) (Closes ways.Downstream)
-downstream_closed s = record { node = refl; keeps = λ at c kept. kept_by at c kept } where
+downstream_closed s = record { node = refl; step = refl; drives = refl; keeps = λ at c kept. kept_by at c kept } where
   kept_by : (at : Side) (c : Connection) → Holds false at s c → Holds false at (record s { downstream = at_rest }) (call_does (way_of at) (Closes ways.Downstream) c)
   kept_by Entry c kept = record { sent = kept.sent; heard = found_stays Entry refl refl kept.heard }
   kept_by Exit c kept = record { sent = refl; heard = found_stays Exit refl refl kept.heard }
 
-close_piece : {rules : Rules} {s t : RunState} {log : List ℕ} (moment : ℤ) (way : Way) → AfterClose rules moment way s t log → Piece rules s t (Closes way ∷ []) log
-close_piece {rules} {s} {t} {log} moment ways.Panel after = piece_call (called_aside panel_close_aside (record { node = refl; up = refl; down = refl; held = refl })) (quiet_same after.0 after.1)
+close_piece : {rules : Rules} {s t : RunState} {log : List ℕ} (moment : ℤ) (way : Way) → AfterClose rules moment way s t log → Piece None rules s t (Closes way ∷ []) log
+close_piece {rules} {s} {t} {log} moment ways.Panel after = piece_call (called_aside panel_close_aside (record { node = refl; up = refl; down = refl; held = refl; step = refl; drives = refl })) (quiet_same after.0 after.1)
 close_piece {rules} {s} {t} {log} moment ways.Upstream after =
     piece_call (upstream_closed s)
     (part_behind (takes_part (may_of s.node (inputs.Notice Entry)) rules moment (inputs.Notice Entry) (record s { upstream = at_rest }) (record s { upstream = at_rest }) t log tt (λ told. refl) refl same_self after))
@@ -651,13 +667,13 @@ close_piece {rules} {s} {t} {log} moment ways.Downstream after =
     piece_call (downstream_closed s)
     (part_behind (takes_part (may_of s.node (inputs.Notice Exit)) rules moment (inputs.Notice Exit) (record s { downstream = at_rest }) (record s { downstream = at_rest }) t log tt (λ told. refl) refl same_self after))
 close_piece {rules} {s} {t} {log} moment ways.Supervisory after =
-    piece_call (called_aside supervisory_close_aside (record { node = refl; up = refl; down = refl; held = refl }))
+    piece_call (called_aside supervisory_close_aside (record { node = refl; up = refl; down = refl; held = refl; step = refl; drives = refl }))
     (part_behind (unsupervised_part rules moment (record s { supervisory = at_rest; channel = no_session }) (record s { supervisory = at_rest; channel = no_session }) t log same_self after))
-close_piece {rules} {s} {t} {log} moment ways.Configuration after = piece_call (called_aside configuration_close_aside (record { node = refl; up = refl; down = refl; held = refl })) (quiet_same after.0 after.1)
+close_piece {rules} {s} {t} {log} moment ways.Configuration after = piece_call (called_aside configuration_close_aside (record { node = refl; up = refl; down = refl; held = refl; step = refl; drives = refl })) (quiet_same after.0 after.1)
 
 -- ---- a listen inside a turn
 
-try_piece : {rules : Rules} {s t : RunState} {log : List ℕ} (moment : ℤ) (settings : Settings) (opened : Opened) → AfterTry opened moment settings s t → log ≡ [] → Piece rules s t (Listens ways.Downstream (at_all settings.port) opened ∷ []) log
+try_piece : {rules : Rules} {s t : RunState} {log : List ℕ} (moment : ℤ) (settings : Settings) (opened : Opened) → AfterTry opened moment settings s t → log ≡ [] → Piece None rules s t (Listens ways.Downstream (at_all settings.port) opened ∷ []) log
 try_piece {rules} {s} {t} {log} moment settings opened after none =
     piece_call (called_aside (listen_aside ways.Downstream (at_all settings.port) opened) (try_same opened moment settings s t after)) (quiet_behind (tells_none rules log none) same_self)
 
@@ -679,19 +695,26 @@ notice_plain side Entry = refl
 notice_plain side Exit = refl
 
 same_begun : (side : Side) (s : RunState) → Same s (reset_begun side s)
-same_begun Entry s = record { node = refl; up = refl; down = refl; held = refl }
-same_begun Exit s = record { node = refl; up = refl; down = refl; held = refl }
+same_begun Entry s = record { node = refl; up = refl; down = refl; held = refl; step = refl; drives = refl }
+same_begun Exit s = record { node = refl; up = refl; down = refl; held = refl; step = refl; drives = refl }
 
 left_node : (moment : ℤ) (side : Side) (s : RunState) → (leaving moment side (reset_begun side s)).node ≡ s.node
 left_node moment Entry s = refl
 left_node moment Exit s = refl
 
+left_step : (moment : ℤ) (side : Side) (s : RunState) → (leaving moment side (reset_begun side s)).step ≡ s.step
+left_step moment Entry s = refl
+left_step moment Exit s = refl
+
+left_drives : (moment : ℤ) (side : Side) (s : RunState) → (leaving moment side (reset_begun side s)).drives ≡ s.drives
+left_drives moment Entry s = refl
+left_drives moment Exit s = refl
+
 left_piece : {rules : Rules} {s t : RunState} {log : List ℕ} (moment : ℤ) (side : Side) → may_of s.node (inputs.Notice side) ≡ may_do → (st : Stepped rules (inputs.Notice side) (leaving moment side (reset_begun side s)) t log)
-    → Steps s.node [] (inputs.Notice side) moment t.node st.told → Piece rules s t [] log
-left_piece {rules} {s} {t} {log} moment side may st made = record {
+    → Steps s.node [] (inputs.Notice side) moment t.node st.told → t.step ≡ one_more (entry_of [] (inputs.Notice side) moment) s.step → Piece (Some side) rules s t [] log
+left_piece {rules} {s} {t} {log} moment side may st made counted = record {
   more = says side (reset_text moment) ∷ steps (inputs.Notice side) st.told ∷ [];
-  calls_are = refl;
-  along = reset moment may made at_end;
+  along = a_reset refl counted may made (st.drives ∙ ap (λ (d : Drives). drives_after d st.told) (left_drives moment side s));
   tells = tells_step st;
   keeps = λ at c kept. (
       let told : Holds false at (leaving moment side (reset_begun side s)) (does at (says side (reset_text moment)) c) = left_holds moment side s at c kept in
@@ -699,32 +722,46 @@ left_piece {rules} {s} {t} {log} moment side may st made = record {
       ((in_order kept, (in_order told, in_order behind)), behind));
 }
 
+-- a side that has no connection is reset without a word
+unreset_piece : {resets : Option Side} {rules : Rules} {s t : RunState} {log : List ℕ} → Tells rules log [] → Same s t → Piece resets rules s t [] log
+unreset_piece tells same = record {
+  more = [];
+  along = no_step same.step same.node same.drives;
+  tells = tells;
+  keeps = λ at c kept. (in_order kept, same_holds same kept);
+}
+
 reset_by : {rules : Rules} {s t : RunState} {log : List ℕ} (may : Result (Unit {0}) No) (moment : ℤ) (side : Side) → may_of s.node (inputs.Notice side) ≡ may
-    → Takes may rules moment (inputs.Notice side) (leaving moment side (reset_begun side s)) (reset_begun side s) t log → Piece rules s t [] log
+    → Takes may rules moment (inputs.Notice side) (leaving moment side (reset_begun side s)) (reset_begun side s) t log → Piece (Some side) rules s t [] log
 reset_by {rules} {s} {t} {log} (Ok done) moment side may takes =
     let u : RunState = leaving moment side (reset_begun side s) in
     let node : u.node ≡ s.node = left_node moment side s in
     left_piece moment side may (step_part false rules moment [] (inputs.Notice side) u t log (λ told. refl) (ap (λ (n : NodeState). may_of n (inputs.Notice side)) node ∙ may) takes)
     (subst (λ (n : NodeState). Steps n [] (inputs.Notice side) moment t.node takes.told) node (subst (λ (n : NodeState). Steps u.node [] (inputs.Notice side) moment n takes.told) (sym (ap (λ (r : RunState). r.node) takes.after)) takes.steps))
-reset_by {rules} {s} {t} {log} (Err why) moment side may takes = piece_none (quiet_behind (tells_none rules log takes.1) (same_is takes.0 (same_begun side s)))
+    (ap (λ (r : RunState). r.step) takes.after ∙ ap (one_more (entry_of [] (inputs.Notice side) moment)) (left_step moment side s))
+reset_by {rules} {s} {t} {log} (Err why) moment side may takes = unreset_piece (tells_none rules log takes.1) (same_is takes.0 (same_begun side s))
 
-reset_piece : {rules : Rules} {s t : RunState} {log : List ℕ} (moment : ℤ) (side : Side) → ResetsSide rules moment side s t log → Piece rules s t [] log
+reset_piece : {rules : Rules} {s t : RunState} {log : List ℕ} (moment : ℤ) (side : Side) → ResetsSide rules moment side s t log → Piece (Some side) rules s t [] log
 reset_piece {rules} {s} {t} {log} moment side resets = reset_by (may_of s.node (inputs.Notice side)) moment side refl resets
 
 -- ---- A MOVE
 
-pub move_piece : {rules : Rules} {moment : ℤ} {s t : RunState} {given : List Given} {log : List ℕ} → Moves rules moment s given t log → Piece rules s t given log
-move_piece (listens {s} {way} {address} {opened} next) = piece_call (called_aside (listen_aside way address opened) (listened_same address opened s)) (quiet_same refl refl)
-move_piece (connects {s} {address} {opened} next) = piece_call (called_aside (connect_aside ways.Upstream address opened) (record { node = refl; up = refl; down = refl; held = refl })) (quiet_same refl refl)
-move_piece {rules} {moment} (polls {s} {t} {way} {got} {log} next done) = poll_piece moment way got (none_held rules s way next) done
-move_piece (sends {s} {way} {sent} next) = send_piece way sent s
-move_piece (refuses_second {s} {refusal} {sent} next is) = piece_call (called_aside (refuse_aside refusal.way refusal.text sent) (record { node = refl; up = refl; down = refl; held = refl })) (quiet_same refl refl)
-move_piece {rules} {moment} (closes {s} {t} {way} {log} next done) = close_piece moment way done
-move_piece (skips {s} next) = piece_none (quiet_behind (tells_none _ [] refl) same_moved)
-move_piece {rules} {moment} (looks_again {s} {t} {got} {log} next done) = piece_call (called_aside (panel_poll_aside got) (record { node = refl; up = refl; down = refl; held = refl })) (part_behind (panel_part rules got (looked got s) t log done))
-move_piece {rules} {moment} (takes_held {s} {t} {log} next done) = piece_none (held_behind moment done)
-move_piece {rules} {moment} (does_line {s} {t} {log} next done) = piece_none (part_behind (cut_part (cut_line s.rest) rules moment s t log done))
-move_piece {rules} {moment} (does_hear {s} {t} {log} next done) = piece_none (part_behind (hear_part rules moment s t log done))
-move_piece {rules} {moment} (does_config {s} {t} {log} next done none) = piece_none (quiet_behind (tells_none rules log none) (config_same moment s t done))
-move_piece {rules} {moment} (tries_port {s} {t} {settings} {opened} {log} next done none) = try_piece moment settings opened done none
-move_piece {rules} {moment} (resets_side {s} {t} {side} {log} next done) = reset_piece moment side done
+-- a move of which it is known what comes next
+placed : {rules : Rules} {s t : RunState} {given : List Given} {log : List ℕ} {next : Next} → next_of rules s ≡ next → Piece (reset_of next) rules s t given log → Piece (reset_of (next_of rules s)) rules s t given log
+placed {rules} {s} {t} {given} {log} is piece = subst (λ (n : Next). Piece (reset_of n) rules s t given log) (sym is) piece
+
+pub move_piece : {rules : Rules} {moment : ℤ} {s t : RunState} {given : List Given} {log : List ℕ} → Moves rules moment s given t log → Piece (reset_of (next_of rules s)) rules s t given log
+move_piece (listens {s} {way} {address} {opened} next) = placed next (piece_call (called_aside (listen_aside way address opened) (listened_same address opened s)) (quiet_same refl refl))
+move_piece (connects {s} {address} {opened} next) = placed next (piece_call (called_aside (connect_aside ways.Upstream address opened) (record { node = refl; up = refl; down = refl; held = refl; step = refl; drives = refl })) (quiet_same refl refl))
+move_piece {rules} {moment} (polls {s} {t} {way} {got} {log} next done) = placed next (poll_piece moment way got (none_held rules s way next) done)
+move_piece (sends {s} {way} {sent} next) = placed next (send_piece way sent s)
+move_piece (refuses_second {s} {refusal} {sent} next is) = placed next (piece_call (called_aside (refuse_aside refusal.way refusal.text sent) (record { node = refl; up = refl; down = refl; held = refl; step = refl; drives = refl })) (quiet_same refl refl))
+move_piece {rules} {moment} (closes {s} {t} {way} {log} next done) = placed next (close_piece moment way done)
+move_piece (skips {s} next) = placed next (piece_none (quiet_behind (tells_none _ [] refl) same_moved))
+move_piece {rules} {moment} (looks_again {s} {t} {got} {log} next done) = placed next (piece_call (called_aside (panel_poll_aside got) (record { node = refl; up = refl; down = refl; held = refl; step = refl; drives = refl })) (part_behind (panel_part rules got (looked got s) t log done)))
+move_piece {rules} {moment} (takes_held {s} {t} {log} next done) = placed next (piece_none (held_behind moment done))
+move_piece {rules} {moment} (does_line {s} {t} {log} next done) = placed next (piece_none (part_behind (cut_part (cut_line s.rest) rules moment s t log done)))
+move_piece {rules} {moment} (does_hear {s} {t} {log} next done) = placed next (piece_none (part_behind (hear_part rules moment s t log done)))
+move_piece {rules} {moment} (does_config {s} {t} {log} next done none) = placed next (piece_none (quiet_behind (tells_none rules log none) (config_same moment s t done)))
+move_piece {rules} {moment} (tries_port {s} {t} {settings} {opened} {log} next done none) = placed next (try_piece moment settings opened done none)
+move_piece {rules} {moment} (resets_side {s} {t} {side} {log} next done) = placed next (reset_piece moment side done)

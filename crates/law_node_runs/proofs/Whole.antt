@@ -7,29 +7,20 @@ use Rattle.config_service.specs.declared.message.Settings.{Settings}
 use Rattle.node_core.specs.Node.{NodeState}
 use Rattle.node_core.specs.declared.act.Act.{Act}
 use Rattle.node_run.specs.Owning.{TellsActs, no_lines}
-use Rattle.node_run.specs.Runs.{Runs, begins, goes_on}
+use Rattle.node_run.specs.Next.{next_of}
+use Rattle.node_run.specs.Runs.{Moves, Runs, begins, goes_on}
 use Rattle.node_run.specs.State.{RunState, started}
 use Rattle.node_run.specs.declared.rules.Rules.{Rules}
 use Rattle.law_node_runs.specs.Connections.{Connection, ConnectionsAreInOrder, InOrderAlong, does, no_connection}
-use Rattle.law_node_runs.specs.Doings.{Doing, StepsAlong, act_in, acts_in, at_end, call_in, called, calls_in, reset, stepped}
+use Rattle.law_node_runs.specs.Doings.{Doing, RunDoes, act_in, acts_in, reset_of, run_begins, run_goes_on}
 use Rattle.law_node_runs.proofs.Holding.{Holds, all_heard, in_order}
 use Rattle.law_node_runs.proofs.Pieces.{Piece, done_all, move_piece}
 
 -- ---- doings behind others
 
-calls_join : (one two : List Doing) → calls_in (one ++ two) ≡ calls_in one ++ calls_in two
-calls_join [] two = refl
-calls_join (doing ∷ one) two = ap (λ (l : List Given). call_in doing ++ l) (calls_join one two) ∙ sym (append_assoc (call_in doing) (calls_in one) (calls_in two))
-
 acts_join : (one two : List Doing) → acts_in (one ++ two) ≡ acts_in one ++ acts_in two
 acts_join [] two = refl
 acts_join (doing ∷ one) two = ap (λ (l : List Act). act_in doing ++ l) (acts_join one two) ∙ sym (append_assoc (act_in doing) (acts_in one) (acts_in two))
-
-along_join : {a b c : NodeState} {one : List Doing} (two : List Doing) → StepsAlong a one b → StepsAlong b two c → StepsAlong a (one ++ two) c
-along_join two at_end next = next
-along_join two (called more) next = called (along_join two more next)
-along_join two (stepped read moment may step more) next = stepped read moment may step (along_join two more next)
-along_join two (reset moment may step more) next = reset moment may step (along_join two more next)
 
 order_join : (side : Side) (c : Connection) (one two : List Doing) → InOrderAlong side c one → InOrderAlong side (done_all side one c) two → InOrderAlong side c (one ++ two)
 order_join side c [] two first later = later
@@ -41,19 +32,18 @@ done_join side c (doing ∷ one) two = done_join side (does side doing c) one tw
 
 -- ---- a run so far
 
-record SoFar (rules : Rules) (s t : RunState) (given : List Given) (log : List ℕ) : Type 0 where
+record SoFar (rules : Rules) (s t : RunState) (moments : List ℤ) (given : List Given) (log : List ℕ) : Type 0 where
   doings : List Doing
-  calls_are : calls_in doings ≡ given
-  along : StepsAlong s.node doings t.node
+  happen : RunDoes rules s moments given t log doings
   tells : TellsActs rules log (acts_in doings)
   order : (side : Side) → InOrderAlong side no_connection doings
   holds : (side : Side) → Holds false side t (done_all side doings no_connection)
 
-goes_further : {rules : Rules} {s t u : RunState} {given more : List Given} {log lines : List ℕ} → SoFar rules s t given log → Piece rules t u more lines → SoFar rules s u (given ++ more) (log ++ lines)
-goes_further {rules} {s} {t} {u} {given} {more} {log} {lines} far piece = record {
+goes_further : {rules : Rules} {s t u : RunState} {moments : List ℤ} {moment : ℤ} {given more : List Given} {log lines : List ℕ} → SoFar rules s t moments given log → Moves rules moment t more u lines → Piece (reset_of (next_of rules t)) rules t u more lines
+    → SoFar rules s u (moments ++ moment ∷ []) (given ++ more) (log ++ lines)
+goes_further {rules} {s} {t} {u} {moments} {moment} {given} {more} {log} {lines} far move piece = record {
   doings = far.doings ++ piece.more;
-  calls_are = calls_join far.doings piece.more ∙ ap (λ (l : List Given). l ++ calls_in piece.more) far.calls_are ∙ ap (λ (l : List Given). given ++ l) piece.calls_are;
-  along = along_join piece.more far.along piece.along;
+  happen = run_goes_on far.happen move piece.along;
   tells = subst (λ (told : List Act). TellsActs rules (log ++ lines) told) (sym (acts_join far.doings piece.more)) (piece.tells.behind log (acts_in far.doings) far.tells);
   order = λ side. order_join side no_connection far.doings piece.more (far.order side) (piece.keeps side (done_all side far.doings no_connection) (far.holds side)).0;
   holds = λ side. subst (λ (c : Connection). Holds false side u c) (sym (done_join side no_connection far.doings piece.more)) (piece.keeps side (done_all side far.doings no_connection) (far.holds side)).1;
@@ -63,18 +53,17 @@ begun : (settings : Settings) (node : NodeState) (side : Side) → Holds false s
 begun settings node Entry = record { sent = refl; heard = all_heard refl }
 begun settings node Exit = record { sent = refl; heard = all_heard refl }
 
-far_in : {rules : Rules} {settings : Settings} {node : NodeState} {s t : RunState} {moments : List ℤ} {given : List Given} {log : List ℕ} → Runs rules s moments given t log → s ≡ started settings node → SoFar rules s t given log
+far_in : {rules : Rules} {settings : Settings} {node : NodeState} {s t : RunState} {moments : List ℤ} {given : List Given} {log : List ℕ} → Runs rules s moments given t log → s ≡ started settings node → SoFar rules s t moments given log
 far_in {rules} {settings} {node} (begins {s}) is = record {
   doings = [];
-  calls_are = refl;
-  along = at_end;
+  happen = run_begins;
   tells = no_lines;
   order = λ side. in_order (begun settings node side);
   holds = λ side. subst (λ (r : RunState). Holds false side r no_connection) (sym is) (begun settings node side);
 }
-far_in (goes_on run move) is = goes_further (far_in run is) (move_piece move)
+far_in (goes_on run move) is = goes_further (far_in run is) move (move_piece move)
 
 pub connections_are_in_order : ConnectionsAreInOrder
 connections_are_in_order rules settings node moments t given log run =
-    let far : SoFar rules (started settings node) t given log = far_in run refl in
-    record { doings = far.doings; calls_are = far.calls_are; along = far.along; tells = far.tells; order = far.order }
+    let far : SoFar rules (started settings node) t moments given log = far_in run refl in
+    record { doings = far.doings; happen = far.happen; tells = far.tells; order = far.order }

@@ -17,7 +17,7 @@ use Rattle.node_run.specs.Runs.{Runs}
 use Rattle.node_run.specs.State.{RunState, started}
 use Rattle.node_run.specs.Steps.{messages_for, others}
 use Rattle.node_run.specs.declared.rules.Rules.{Rules}
-use Rattle.law_node_runs.specs.Doings.{Doing, StepsAlong, acts_in, calls, calls_in, says, steps}
+use Rattle.law_node_runs.specs.Doings.{Doing, RunDoes, acts_in, calls, says, steps}
 
 -- ---- a connection
 
@@ -97,13 +97,12 @@ abbrev pub InOrderAlong : Side → Connection → List Doing → Type 0
 InOrderAlong side c [] = IsInOrder c
 InOrderAlong side c (doing ∷ more) = IsInOrder c × InOrderAlong side (does side doing c) more
 
--- what happens in a run: its calls, and between them the steps of the machine, whose acts the log tells;
--- and at both sides the bytes of each connection go in their order
-pub record HasConnections (rules : Rules) (s t : RunState) (given : List Given)
+-- what happens in a run, move by move, and whose acts the log tells; and at both sides the bytes of each
+-- connection go in their order
+pub record HasConnections (rules : Rules) (s t : RunState) (moments : List ℤ) (given : List Given)
     (log : List ℕ) : Type 0 where
   pub doings : List Doing
-  pub calls_are : calls_in doings ≡ given
-  pub along : StepsAlong s.node doings t.node
+  pub happen : RunDoes rules s moments given t log doings
   pub tells : TellsActs rules log (acts_in doings)
   pub order : (side : Side) → InOrderAlong side no_connection doings
 
@@ -112,4 +111,4 @@ abbrev pub ConnectionsAreInOrder : Type 0
 ConnectionsAreInOrder =
     (rules : Rules) (settings : Settings) (node : NodeState) (moments : List ℤ) (t : RunState)
     (given : List Given) (log : List ℕ) → Runs rules (started settings node) moments given t log
-    → HasConnections rules (started settings node) t given log
+    → HasConnections rules (started settings node) t moments given log

@@ -3,5 +3,7 @@ pub mod Each
 pub mod Kept
 pub mod First
 pub mod Anew
+pub mod PowerCut
 pub mod Doings
 pub mod Connections
+pub mod OldBytes

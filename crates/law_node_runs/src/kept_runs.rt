@@ -3,6 +3,7 @@
 ghost use Rattle.law_node_runs.specs.Anew.{KeptLogTellsOwn, KeptRunsAreRuns, NewMachinesRunAsEver};
 ghost use Rattle.law_node_runs.specs.First.{CallsComeFirst};
 ghost use Rattle.law_node_runs.specs.Kept.{EachKeptRunIsOne};
+ghost use Rattle.law_node_runs.specs.PowerCut.{PowerCutsAreSurvived};
 
 /// Equal answers at equal moments give equal calls, an equal log, equal entries and an equal end.
 pub fn a_run_over_a_book_is_one()
@@ -35,4 +36,12 @@ pub fn what_a_machine_owns_is_read_off_its_log()
     ensures { KeptLogTellsOwn }
 {
     node_run::laws::the_entries_are_the_steps();
+}
+
+/// A power cut: whichever of a run's entries the disk has, and however many bytes of the next one, the
+/// machine begins again from them, with its drives, where the run was when it had kept those.
+pub fn a_power_cut_is_survived()
+    ensures { PowerCutsAreSurvived }
+{
+    restart_book::laws::a_kept_book_is_resumed();
 }

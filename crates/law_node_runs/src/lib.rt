@@ -3,8 +3,8 @@
 //! connection go in their order. There is no code here: each law is the contract of a function without
 //! a body.
 //!
-//! For a reader: specs/One; specs/Each; over a restart book specs/Kept and First; specs/Doings, what
-//! happens in a run, and specs/Connections.
+//! For a reader: specs/One; specs/Each; over a restart book specs/Kept, First and PowerCut; specs/Doings,
+//! what happens in a run, specs/Connections and OldBytes.
 #![tactic(auto)]
 
 pub mod each_run;

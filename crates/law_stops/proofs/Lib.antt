@@ -1,0 +1,4 @@
+pub mod TurnZero
+pub mod Momentless
+pub mod Stopping
+pub mod Alike
