@@ -1,0 +1,4 @@
+pub mod Announcing
+pub mod Told
+pub mod Leaving
+pub mod Along

@@ -1,0 +1,11 @@
+use Rattle.law_lane_shifts.proofs.Along.{shifts_leave}
+use Rattle.law_lane_shifts.proofs.laws.each_shift_leaves_the_record.Goals as goal
+
+pub returns : goal.returns
+returns c = shifts_leave (record {
+  oldest = c.the_words_of_a_piece_are_the_oldest_messages.ensures;
+  wrong = c.a_frame_with_a_nul_is_a_wrong_word.ensures;
+  sayable = c.fit_messages_are_sayable.ensures;
+  fit_words = c.the_words_of_fit_messages_are_fit.ensures;
+  fit_wrong = c.the_words_behind_a_nul_are_fit.ensures;
+})

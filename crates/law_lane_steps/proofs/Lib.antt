@@ -1,0 +1,4 @@
+pub mod Calm
+pub mod Alike
+pub mod Ending
+pub mod Going

@@ -1,0 +1,3 @@
+pub mod Undisturbed
+pub mod Steps
+pub mod Play
