@@ -4,8 +4,11 @@ use Rattle.law_lanes.specs.Along.{EachFrontIsATrack, EachLaneIsATrack, EachRecor
 use Rattle.law_lanes.specs.Lanes.{no_lanes}
 use Rattle.law_lanes.specs.Parts.{IsLaneRun, IsShort, LanePoint, all_points}
 use Rattle.law_lanes.proofs.ScriptRuns.{run-short}
+use Rattle.law_lane_ids.specs.OwnIds.{IdsOfAllLanes}
+use Rattle.law_lane_script.specs.Script.{EachLaneDoesItsLines}
+use Rattle.law_lane_shifts.specs.Shifted.{EachShiftLeavesRecords}
 use Rattle.line_commands.specs.Script.{script_of}
-use Rattle.line_cli.specs.Tracks.{EachFrontIsRun, EachLaneIsRun, EachRecordHasOneLane, EachRecordStandsOnLanes}
+use Rattle.line_cli.specs.Tracks.{EachFrontIsRun, EachLaneDoesItsScript, EachLaneIsRun, EachRecordHasOneLane, EachRecordStandsOnLanes, EachScriptHasOwnIds, EachShiftKeepsTheRecord}
 use Rattle.line_commands.proofs.FitScript.{scripts_are_fit}
 
 short : (bytes : List ℕ) (done : List (List LanePoint)) → IsLaneRun no_lanes (script_of bytes).lines done → IsShort no_lanes (all_points done)
@@ -24,3 +27,12 @@ records_stand law bytes done n run honest = law (script_of bytes).lines done n (
 
 pub records_on_one : EachRecordIsOnOneLane → EachRecordHasOneLane
 records_on_one law bytes done n run honest = law (script_of bytes).lines done n (scripts_are_fit bytes).fit (short bytes done run) run honest
+
+pub lanes_do : EachLaneDoesItsLines → EachLaneDoesItsScript
+lanes_do law bytes done lane some run = law (script_of bytes).lines done lane some (scripts_are_fit bytes).fit (short bytes done run) run
+
+pub shifts_keep : EachShiftLeavesRecords → EachShiftKeepsTheRecord
+shifts_keep law bytes done n run honest = law (script_of bytes).lines done n (scripts_are_fit bytes).fit (short bytes done run) run honest
+
+pub own_ids : IdsOfAllLanes → EachScriptHasOwnIds
+own_ids law bytes done run = law (script_of bytes).lines done (scripts_are_fit bytes).fit (short bytes done run) run

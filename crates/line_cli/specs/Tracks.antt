@@ -6,14 +6,26 @@ use Rattle.law_lanes.specs.Along.{IsHonestTrackOf, IsOnOneLane, IsTrackOf, Stand
 use Rattle.law_lanes.specs.Lanes.{no_lanes}
 use Rattle.law_lanes.specs.Parts.{IsLaneRun, LanePoint, all_points}
 use Rattle.law_lanes.specs.Views.{has_lie_on}
+use Rattle.law_lane_ids.specs.OwnIds.{HasIdsOnLanes}
+use Rattle.law_lane_script.specs.Script.{DoesLines, script_on}
+use Rattle.law_lane_shifts.specs.Shifted.{ShiftsLeave}
 use Rattle.line_commands.specs.Script.{script_of}
 
 -- whatever bytes a script is read from: short on each lane, and up to the first lie on any lane fit,
--- with boards that come only from where they were at home
+-- with boards that come only where they weren't at home
 abbrev pub EachLaneIsRun : Type 0
 EachLaneIsRun =
     (bytes : List ℕ) (done : List (List LanePoint)) (lane : ℕ) → 1 ≤ lane
     → IsLaneRun no_lanes (script_of bytes).lines done → IsTrackOf lane (all_points done)
+
+-- and it is the run of the script's own lines, each as it is to that lane: what is done in it is what
+-- is told of the lane, and of a line of the lane alone all is, that it is refused too, but for
+-- standings
+abbrev pub EachLaneDoesItsScript : Type 0
+EachLaneDoesItsScript =
+    (bytes : List ℕ) (done : List (List LanePoint)) (lane : ℕ) → 1 ≤ lane
+    → IsLaneRun no_lanes (script_of bytes).lines done
+    → DoesLines lane (script_on lane (script_of bytes).lines done) (all_points done)
 
 -- and up to there it is a run of which each law over runs speaks
 abbrev pub EachFrontIsRun : Type 0
@@ -39,3 +51,17 @@ EachRecordHasOneLane =
     → IsLaneRun no_lanes (script_of bytes).lines done
     → has_lie_on (take n (all_points done)) ≡ false
     → AllByRecursion (λ (point : LanePoint). IsOnOneLane point.after) (take n (all_points done))
+
+-- and over a shift the record of the board stays the same, word for word
+abbrev pub EachShiftKeepsTheRecord : Type 0
+EachShiftKeepsTheRecord =
+    (bytes : List ℕ) (done : List (List LanePoint)) (n : ℕ)
+    → IsLaneRun no_lanes (script_of bytes).lines done
+    → has_lie_on (take n (all_points done)) ≡ false
+    → ShiftsLeave no_lanes (take n (all_points done))
+
+-- in any case ids are new on all lanes, and the boards' own
+abbrev pub EachScriptHasOwnIds : Type 0
+EachScriptHasOwnIds =
+    (bytes : List ℕ) (done : List (List LanePoint))
+    → IsLaneRun no_lanes (script_of bytes).lines done → HasIdsOnLanes (all_points done)

@@ -15,6 +15,8 @@ ghost use Rattle.law_one_standing.specs.Facts.{CustodyFacts};
 ghost use Rattle.law_one_standing.specs.Replay.{LedgerFollows};
 ghost use Rattle.law_one_standing.specs.Standing.{OneStanding};
 ghost use Rattle.law_supervisor_replay.specs.Replay.{ReplayAgrees};
+ghost use Rattle.law_lane_steps.specs.Play.{EndsForWhoeverGoesOnOnLanes};
+ghost use Rattle.law_lane_steps.specs.Steps.{EndsWithinTwelveOnLanes};
 ghost use Rattle.law_twelve_steps.specs.Example.{IsReachedAnnounced};
 ghost use Rattle.law_twelve_steps.specs.Twelve.{EndsWithinTwelveSteps};
 ghost use Rattle.law_twelve_steps.specs.Play.{EndsForWhoeverGoesOn};
@@ -28,7 +30,7 @@ ghost use Rattle.line_commands.specs.Premises.{ScriptsAreFit};
 ghost use Rattle.stream_text.specs.ReadText.{EachStreamHasOneReadText};
 ghost use Rattle.line_commands.specs.Report.{EachScriptHasOneReport};
 ghost use Rattle.line_cli.specs.Right.{SparesRight};
-ghost use Rattle.line_cli.specs.Tracks.{EachFrontIsRun, EachLaneIsRun, EachRecordHasOneLane, EachRecordStandsOnLanes};
+ghost use Rattle.line_cli.specs.Tracks.{EachFrontIsRun, EachLaneDoesItsScript, EachLaneIsRun, EachRecordHasOneLane, EachRecordStandsOnLanes, EachScriptHasOwnIds, EachShiftKeepsTheRecord};
 
 use crate::laws::{
     each_input_has_one_answer, each_lane_is_run, one_make_text, one_report, read_once,
@@ -79,12 +81,19 @@ pub fn line_main<S: Source, K: Sink>(
     ensures made { EachNumberHasOneMakeText }
     // on each lane the run of every script is the run of a track
     ensures lanes { EachLaneIsRun }
+    // of the script's own lines, each as it is to that lane
+    ensures lane_lines { EachLaneDoesItsScript }
     // up to the first lie on any lane one of which the laws over runs below speak
     ensures lane_fronts { EachFrontIsRun }
     // so each record stands with one machine or in one named handover of its lane
     ensures lane_standing { EachRecordStandsOnLanes }
     // and up to that no record is on two lanes
     ensures one_lane { EachRecordHasOneLane }
+    // over a shift the record of the board stays the same, with all its parts
+    ensures shifts { EachShiftKeepsTheRecord }
+    // and always no two boards on all lanes share an id, and an id that is made on any lane was named
+    // by hand on none before
+    ensures lane_ids { EachScriptHasOwnIds }
     // a script that names no lane does and tells what it does over one track
     ensures alone { EachScriptOfOneLaneIsATrack }
     // unique ids on the floor, and ids that stay, over the run of every script
@@ -128,11 +137,15 @@ pub fn line_main<S: Source, K: Sink>(
     ensures asked { WhatOpensStarted }
     // an undisturbed handover ends within twelve link steps
     ensures steps { EndsWithinTwelveSteps }
+    // so it does on each lane of a script, in the script's own lines
+    ensures lane_steps { EndsWithinTwelveOnLanes }
     // and a script of six lines leads to a state from which it is to
     ensures announced { IsReachedAnnounced }
     // whoever does link steps that can be done, until none is left, has ended it after at most
     // twelve
     ensures goes_on { EndsForWhoeverGoesOn }
+    // on each lane of a script too
+    ensures lane_goes_on { EndsForWhoeverGoesOnOnLanes }
     // which ask of a script what each script that is read has
     ensures fit { ScriptsAreFit }
     // a handover opens exactly when board and place are announced, over the run of every script
@@ -155,6 +168,9 @@ pub fn line_main<S: Source, K: Sink>(
     each_lane_is_run();
     law_lanes::laws::each_script_on_lanes_has_a_run();
     law_lanes::laws::a_script_of_one_lane_is_a_track();
+    law_lane_script::laws::each_lane_does_its_lines();
+    law_lane_shifts::laws::each_shift_leaves_the_record();
+    law_lane_ids::laws::ids_are_new_on_all_lanes();
     law_one_standing::laws::one_standing_after_each_line();
     law_one_standing::laws::the_custody_facts_hold_after_each_line();
     law_one_standing::laws::the_ledger_follows_the_report();
@@ -173,8 +189,10 @@ pub fn line_main<S: Source, K: Sink>(
     law_history::laws::what_an_intake_holds_was_started_last();
     law_history::laws::what_opens_was_started_last();
     law_twelve_steps::laws::an_undisturbed_handover_ends_within_twelve_link_steps();
+    law_lane_steps::laws::an_undisturbed_handover_of_a_lane_ends();
     law_twelve_steps::laws::an_announced_state_is_reached();
     law_twelve_steps::whoever_goes_on::whoever_goes_on_ends_it();
+    law_lane_steps::laws::whoever_goes_on_a_lane_ends_it();
     law_sentences::line_openings::a_machine_opens_exactly_when_announced();
     law_sentences::work_orders::each_query_has_one_answer();
     law_running_logs::laws::the_merged_log_of_a_run_that_reads_first_is_right();

@@ -7,6 +7,7 @@ use Rattle.line_cli.proofs.LedgerTold.{fronts_tell, reports_stand, reports_start
 use Rattle.line_cli.proofs.MadeOnce.{has_one_make_text}
 use Rattle.stream_text.proofs.ReadFronts.{has_one_read_text}
 use Rattle.line_cli.proofs.Spared.{spares}
+use Rattle.line_cli.proofs.Tracks.{lanes_do, own_ids, shifts_keep}
 use Rattle.line_cli.proofs.command.line_main.Goals as goal
 
 pub returns-clause-does : goal.returns-clause-does
@@ -41,6 +42,15 @@ returns-clause-lane_standing g c = c.each_lane_is_run.ensures.standing
 
 pub returns-clause-one_lane : goal.returns-clause-one_lane
 returns-clause-one_lane g c = c.each_lane_is_run.ensures.one_lane
+
+pub returns-clause-lane_lines : goal.returns-clause-lane_lines
+returns-clause-lane_lines g c = lanes_do c.each_lane_does_its_lines.ensures
+
+pub returns-clause-shifts : goal.returns-clause-shifts
+returns-clause-shifts g c = shifts_keep c.each_shift_leaves_the_record.ensures
+
+pub returns-clause-lane_ids : goal.returns-clause-lane_ids
+returns-clause-lane_ids g c = own_ids c.ids_are_new_on_all_lanes.ensures
 
 pub returns-clause-alone : goal.returns-clause-alone
 returns-clause-alone g c = c.a_script_of_one_lane_is_a_track.ensures
@@ -114,8 +124,14 @@ returns-clause-asked g c = c.what_opens_was_started_last.ensures
 pub returns-clause-steps : goal.returns-clause-steps
 returns-clause-steps g c = c.an_undisturbed_handover_ends_within_twelve_link_steps.ensures
 
+pub returns-clause-lane_steps : goal.returns-clause-lane_steps
+returns-clause-lane_steps g c = c.an_undisturbed_handover_of_a_lane_ends.ensures
+
 pub returns-clause-goes_on : goal.returns-clause-goes_on
 returns-clause-goes_on g c = c.whoever_goes_on_ends_it.ensures
+
+pub returns-clause-lane_goes_on : goal.returns-clause-lane_goes_on
+returns-clause-lane_goes_on g c = c.whoever_goes_on_a_lane_ends_it.ensures
 
 pub returns-clause-right : goal.returns-clause-right
 returns-clause-right g c =
