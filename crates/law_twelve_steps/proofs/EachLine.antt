@@ -23,6 +23,8 @@ use Rattle.node_core.specs.Halves.{ended}
 use Rattle.node_core.specs.Node.{NodeState, desk_of}
 use Rattle.node_core.specs.Connect.{notices, opens}
 use Rattle.node_core.specs.Sides.{is_open, session_at}
+use Rattle.node_core.specs.Done.{done as did_only}
+use Rattle.node_core.specs.declared.act.Act.{Act}
 use Rattle.node_core.specs.declared.act.Act.TheVariants as acts
 use Rattle.node_core.specs.declared.input.Input.{Input}
 use Rattle.node_core.specs.declared.input.Input.TheVariants as inputs
@@ -48,8 +50,8 @@ use Rattle.law_one_standing.proofs.MirroringFlow.{can_flow}
 use Rattle.law_one_standing.proofs.RestLine.{node_there}
 use Rattle.law_twelve_steps.specs.Twelve.{tells_settled}
 use Rattle.law_twelve_steps.specs.Undisturbed.{IsElsewhere, IsUndisturbed, NamesElsewhere, blank, connects_above, elsewhere, flows_above, flows_below, flows_down, flows_up, is_of_link, notices_above, notices_below, senses, shows, spoils_above, spoils_below}
-use Rattle.law_twelve_steps.specs.Undisturbed.{begins, enters, leaves}
-use Rattle.law_twelve_steps.proofs.Beside.{Leaves, heard_leaves, leaves_behind, notices_leave, opens_leave, reaches, second_leaves}
+use Rattle.law_twelve_steps.specs.Undisturbed.{begins, enters, is_answered, is_asked, is_supervised, leaves}
+use Rattle.law_twelve_steps.proofs.Beside.{Leaves, heard_leaves, leaves_behind, leaves_told, notices_leave, opens_leave, reaches, second_leaves}
 use Rattle.law_twelve_steps.proofs.Beyond.{Untouched, begins_forth, enters_forth, forth_untouched, leaves_forth, machine_beyond, move_beyond, stage_untouched, untouched_self, untouched_then}
 use Rattle.law_twelve_steps.proofs.Flowing.{above_flows, above_line, forth_less, goes_forth}
 use Rattle.law_twelve_steps.proofs.FlowingDown.{below_flows, below_line}
@@ -264,6 +266,20 @@ elsewhere_line : {k : ℕ} {id : Record} {left number : ℕ} {told : Bool} {s ne
 elsewhere_line {k = k} {number = number} {s = s} {next = next} {done = done} request e h is =
     elsewhere_effect request e (not_of_link k s request e) h (line_effect number request s next done is)
 
+-- ---- what concerns a supervisor alone
+
+aside_told : (body : Body) (told : List Act) → reaches Entry told ≡ [] → Aside body (did_only body told)
+aside_told body told silent = record { leaves = leaves_told Exit body told silent; fewer = omega arith }
+
+at_place : {k : ℕ} {id : Record} {left number : ℕ} {told : Bool} {s next : LineState} {done : List Happening} (input : Input) (m : ℕ) → Had k id left number told s next → ((n : ℕ) → is_of_link k s (requests.gives n input) ≡ false)
+    → (MachineSteps number k input s next done → Goes k id left told s (requests.gives k input) next done) → (MachineSteps number (k + 1) input s next done → Goes k id left told s (requests.gives (k + 1) input) next done)
+    → MachineSteps number m input s next done → (m ≡ k) ⊎ (m ≢ k) → (m ≡ k + 1) ⊎ (m ≢ k + 1) → Goes k id left told s (requests.gives m input) next done
+at_place {k = k} {id = id} {left = left} {number = number} {told = told} {s = s} {next = next} {done = done} input m h none above below steps (inl is) other =
+    subst (λ (n : ℕ). MachineSteps number n input s next done → Goes k id left told s (requests.gives n input) next done) (sym is) above steps
+at_place {k = k} {id = id} {left = left} {number = number} {told = told} {s = s} {next = next} {done = done} input m h none above below steps (inr apart) (inl is) =
+    subst (λ (n : ℕ). MachineSteps number n input s next done → Goes k id left told s (requests.gives n input) next done) (sym is) below steps
+at_place {number = number} input m h none above below steps (inr apart) (inr far) = elsewhere_step (requests.gives m input) number m input h.st (record { not_above = apart; not_below = far }) (none m) steps
+
 -- ---- EACH UNDISTURBED LINE
 
 pub each_line : {k : ℕ} {id : Record} {left number : ℕ} {told : Bool} {s next : LineState} {done : List Happening} (request : Request) → IsUndisturbed k request → Had k id left number told s next → LineDoes number request s next done → Goes k id left told s request next done
@@ -291,3 +307,21 @@ each_line {k = k} {s = s} _ spoils_below h is =
     let apart : k + 1 ≢ k = omega arith in
     unless_goes (requests.spoils (k + 1) Exit) _ _ h.st is (λ may b. spoil_elsewhere (requests.spoils (k + 1) Exit) (k + 1) Exit h.st apart refl b)
 each_line {k = k} _ connects_above h is = unless_goes (requests.connects k) _ _ h.st is (λ may c. connect_above h c)
+each_line {k = k} {s = s} _ (is_supervised {machine = m} {on = on}) h is =
+    unless_goes (requests.gives m (inputs.Supervise on)) _ _ h.st is (λ may steps.
+    at_place (inputs.Supervise on) m h (λ n. refl)
+    (λ own. above_goes (requests.gives k (inputs.Supervise on)) (inputs.Supervise on) s.world h refl refl refl refl own own.steps.lane.brings.1 (λ body. leaves_told Entry body _ refl))
+    (λ own. below_goes (requests.gives (k + 1) (inputs.Supervise on)) (inputs.Supervise on) s.world h refl refl refl own own.steps.lane.brings.0 (λ body role. aside_told body _ refl))
+    steps (same_or_not m k) (same_or_not m (k + 1)))
+each_line {k = k} {s = s} _ (is_asked {machine = m} {question = question}) h is =
+    unless_goes (requests.gives m (inputs.Ask question)) _ _ h.st is (λ may steps.
+    at_place (inputs.Ask question) m h (λ n. refl)
+    (λ own. above_goes (requests.gives k (inputs.Ask question)) (inputs.Ask question) s.world h refl refl refl refl own own.steps.lane.brings.1 (λ body. leaves_told Entry body _ refl))
+    (λ own. below_goes (requests.gives (k + 1) (inputs.Ask question)) (inputs.Ask question) s.world h refl refl refl own own.steps.lane.brings.0 (λ body role. aside_told body _ refl))
+    steps (same_or_not m k) (same_or_not m (k + 1)))
+each_line {k = k} {s = s} _ (is_answered {machine = m} {query = query} {order = order}) h is =
+    unless_goes (requests.gives m (inputs.Answer query order)) _ _ h.st is (λ may steps.
+    at_place (inputs.Answer query order) m h (λ n. refl)
+    (λ own. above_goes (requests.gives k (inputs.Answer query order)) (inputs.Answer query order) s.world h refl refl refl refl own own.steps.lane.brings.1 (λ body. leaves_told Entry body _ refl))
+    (λ own. below_goes (requests.gives (k + 1) (inputs.Answer query order)) (inputs.Answer query order) s.world h refl refl refl own own.steps.lane.brings.0 (λ body role. aside_told body _ refl))
+    steps (same_or_not m k) (same_or_not m (k + 1)))

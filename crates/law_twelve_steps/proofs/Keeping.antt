@@ -30,7 +30,7 @@ use Rattle.law_history.proofs.Offering.{settles_acts, settles_append}
 use Rattle.law_history.proofs.OfferingWhole.{IsAmong, among_first}
 use Rattle.law_history.proofs.View.{done_act, done_by}
 use Rattle.law_twelve_steps.specs.Twelve.{HoldsIt, HoldsItToEnd, KeepsItToEnd, Unless, has_ended, is_settling, tells_settled}
-use Rattle.law_twelve_steps.specs.Undisturbed.{AreUndisturbed, IsUndisturbed, NamesElsewhere, begins, blank, connects_above, elsewhere, enters, flows_above, flows_below, flows_down, flows_up, leaves, more, notices_above, notices_below, senses, shows, spoils_above, spoils_below}
+use Rattle.law_twelve_steps.specs.Undisturbed.{AreUndisturbed, IsUndisturbed, NamesElsewhere, begins, blank, connects_above, elsewhere, enters, flows_above, flows_below, flows_down, flows_up, leaves, more, notices_above, notices_below, senses, shows, spoils_above, spoils_below, is_answered, is_asked, is_supervised}
 
 -- ---- a stretch is of no hand at machine k + 1
 
@@ -62,6 +62,9 @@ no_hand notices_below here = absurd here
 no_hand spoils_above here = absurd here
 no_hand spoils_below here = absurd here
 no_hand connects_above here = absurd here
+no_hand is_supervised here = absurd here
+no_hand is_asked here = absurd here
+no_hand is_answered here = absurd here
 
 -- ---- what is told to settle
 

@@ -2,6 +2,7 @@
 use Rattle.std.specs.Prelude.{Bool, List, None, Option, [], false, true, ℕ, ◌&&◌, ◌+◌, ◌∷◌, ◌==◌, ◌≡◌, ◌≢◌, ◌||◌, not, IsOk}
 use Rattle.line_base.specs.declared.states.SensorEvent.{SensorEvent}
 use Rattle.line_base.specs.declared.states.Side.TheVariants.{Entry, Exit}
+use Rattle.hermes_vertical.specs.declared.message.Question.{Question}
 use Rattle.line_world.specs.FloorPlan.{machine_at}
 use Rattle.line_world.specs.Moves.{floor_move}
 use Rattle.line_world.specs.declared.moves.Move.TheVariants as moves
@@ -89,8 +90,9 @@ NamesElsewhere k _ = ⊥
 
 -- A LINE THAT DOESN'T DISTURB the handover at gap k: one that asks for a link step of k, any
 -- `sense`, a `show`, a blank line, a line of elsewhere, and a `flow`, `notice` or `spoil` at the
--- entry of k and the exit of k + 1, and a connection of k with the machine above it. A `lie` is
--- none, nor is an `unseen`
+-- entry of k and the exit of k + 1, a connection of k with the machine above it, and what concerns
+-- a machine's supervisor alone: a `supervise`, an `ask` and an `answer`. A `lie` is none, nor is an
+-- `unseen`
 pub data IsUndisturbed (k : ℕ) : Request → Type 0 where
   flows_up : IsUndisturbed k (requests.flows k Exit None)
   flows_down : IsUndisturbed k (requests.flows (k + 1) Entry None)
@@ -108,6 +110,12 @@ pub data IsUndisturbed (k : ℕ) : Request → Type 0 where
   spoils_above : IsUndisturbed k (requests.spoils k Entry)
   spoils_below : IsUndisturbed k (requests.spoils (k + 1) Exit)
   connects_above : IsUndisturbed k (requests.connects k)
+  is_supervised : {machine : ℕ} {on : Bool}
+      → IsUndisturbed k (requests.gives machine (inputs.Supervise on))
+  is_asked : {machine : ℕ} {question : Question}
+      → IsUndisturbed k (requests.gives machine (inputs.Ask question))
+  is_answered : {machine query : ℕ} {order : List ℕ}
+      → IsUndisturbed k (requests.gives machine (inputs.Answer query order))
 
 -- along a stretch; a line of another track disturbs nothing
 pub data AreUndisturbed (k : ℕ) : List TrackLine → Type 0 where
