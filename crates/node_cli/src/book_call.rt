@@ -1,3 +1,4 @@
+ghost use Rattle.std.specs.Prelude.{◌≡◌};
 ghost use Rattle.law_joined_nodes.specs.Laws.{NodesStand};
 ghost use Rattle.law_joined_nodes.specs.Poured.{PouredStand};
 ghost use Rattle.law_node_runs.specs.Anew.{KeptLogTellsOwn, KeptRunsAreRuns, NewMachinesRunAsEver};
@@ -6,25 +7,26 @@ ghost use Rattle.law_node_runs.specs.Kept.{EachKeptRunIsOne};
 ghost use Rattle.node_cli.specs.BookAnswered.{EachBookInputHasOneAnswer, IsBookAnswered, counts};
 ghost use Rattle.node_commands.specs.Books.{DoesNodeBook, FitsNodeBook, HasBookCauses, StopsBeginAgain, outside};
 ghost use Rattle.node_commands.specs.Command.{is_one};
+ghost use Rattle.node_commands.specs.declared.book_status.BookStatus.TheVariants as ends;
 ghost use Rattle.node_cli.specs.Logged.{TextIsBounded};
 ghost use Rattle.law_node_runs.specs.Connections.{ConnectionsAreInOrder};
 ghost use Rattle.node_run.specs.Settled.{SettingsAreTheLast};
 ghost use Rattle.restart_book.specs.Exactly.{EachBookHasOneAnswer};
 ghost use Rattle.law_running_line.specs.Reading.{Behind};
 
-use book_keeper::Keeper;
 use line_base::Words;
 use line_outside::{Clock, Ports, Sink, Source};
-use node_commands::{BookStatus, run_with_book};
+use node_commands::{BookStatus, Guarded, run_with_book};
 use std::alloc::Global;
 
 /// The program `node`: runs the machine that a settings file describes, from where its book leads.
 ///
-/// As `node_main`; and `book` has an entry for each step that the machine made. The machine begins
-/// again from it: what follows its whole entries is cut off, and where the machine had a connection,
-/// or was supervised, it makes a step by which it knows that it has none any more. The entry of each
-/// further step is in the book before anything of that step goes out.
-pub fn node_book_main<S: Source, P: Ports, C: Clock, K: Sink, B: Keeper>(
+/// As `node_main`; and `book` has an entry for each step that the machine made. Where another process
+/// has it, the program ends with `BookBusy` and touches nothing. Else the machine begins again from it:
+/// what follows its whole entries is cut off, and where the machine had a connection, or was supervised,
+/// it makes a step by which it knows that it has none any more. The entry of each further step is in the
+/// book before anything of that step goes out.
+pub fn node_book_main<S: Source, P: Ports, C: Clock, K: Sink, B: Guarded>(
     alloc: Global,
     words: &Words,
     file: &mut S,
@@ -35,17 +37,20 @@ pub fn node_book_main<S: Source, P: Ports, C: Clock, K: Sink, B: Keeper>(
 ) -> BookStatus
     // over a file, ports, a log and a book that tell: the calls, the log, the book and the status are
     // those of the run from where the book leads, each of its moves at a moment of the clock
-    ensures does { DoesNodeBook (is_one words.now) (S.left file.old) (B.left book.old)
-        (C.moment clock.old) (outside (P.given ports.old) (K.contents log.old) (B.contents book.old))
+    ensures does { DoesNodeBook (is_one words.now) (S.left file.old) (B.busy book.old)
+        (B.left book.old) (C.moment clock.old) (outside (P.given ports.old) (K.contents log.old) (B.contents book.old))
         (outside (P.given ports.new) (K.contents log.new) (B.contents book.new)) result }
     ensures fits { FitsNodeBook (is_one words.now) result }
     ensures causes { HasBookCauses result (S.faults file.old) (S.faults file.new)
         (P.faults ports.old) (P.faults ports.new) (K.faults log.old) (K.faults log.new)
         (B.faults book.old) (B.faults book.new) }
-    // in one sentence: the answer is the one that the words, the bytes of the file and of the book, the
-    // moments and what the ports answered have, or a fault of file, log or book whose count rose, or Memory
-    ensures complete { IsBookAnswered (is_one words.now) (S.left file.old) (B.left book.old)
-        (C.moment clock.old) (outside (P.given ports.old) (K.contents log.old) (B.contents book.old))
+    // a book that another process has isn't read
+    ensures unread { result ≡ ends.BookBusy → B.left book.new ≡ B.left book.old }
+    // in one sentence: the answer is the one that the words, the bytes of the file and of the book, whether
+    // another process has that, the moments and what the ports answered have, or a fault of file, log or book
+    // whose count rose, or Memory
+    ensures complete { IsBookAnswered (is_one words.now) (S.left file.old) (B.busy book.old)
+        (B.left book.old) (C.moment clock.old) (outside (P.given ports.old) (K.contents log.old) (B.contents book.old))
         (outside (P.given ports.new) (K.contents log.new) (B.contents book.new))
         (counts (S.faults file.old) (K.faults log.old) (B.faults book.old))
         (counts (S.faults file.new) (K.faults log.new) (B.faults book.new)) result }
@@ -57,7 +62,8 @@ pub fn node_book_main<S: Source, P: Ports, C: Clock, K: Sink, B: Keeper>(
     ensures one_kept { EachKeptRunIsOne }
     // the call of a move comes before its step: none follows from a step whose entry isn't in the book
     ensures first { CallsComeFirst }
-    // whatever a run has kept, the machine begins again from it where its last step led
+    // whatever a run has kept, the machine begins again from it where its last step led; and a book whose
+    // end isn't torn has all that it had
     ensures again { StopsBeginAgain }
     // what the machine owns is read off the bytes of the log
     ensures owns { KeptLogTellsOwn }

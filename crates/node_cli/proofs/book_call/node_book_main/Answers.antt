@@ -12,6 +12,9 @@ returns-clause-fits g c = c.run_with_book.ensures.fits
 pub returns-clause-causes : goal.returns-clause-causes
 returns-clause-causes g c = c.run_with_book.ensures.causes
 
+pub returns-clause-unread : goal.returns-clause-unread
+returns-clause-unread g c = c.run_with_book.ensures.unread
+
 pub returns-clause-one_book : goal.returns-clause-one_book
 returns-clause-one_book g c = c.a_book_has_one_answer.ensures
 
@@ -25,7 +28,7 @@ pub returns-clause-bounded : goal.returns-clause-bounded
 returns-clause-bounded g c = c.too_much_text_closes_a_way.ensures
 
 pub returns-clause-complete : goal.returns-clause-complete
-returns-clause-complete g c = answers_so (is_one c.args.words.now) _ _ _ _ _ _ _ _ _ _ _ _ _ _ c.run_with_book.ensures.does c.run_with_book.ensures.causes
+returns-clause-complete g c = answers_so (is_one c.args.words.now) _ _ _ _ _ _ _ _ _ _ _ _ _ _ _ c.run_with_book.ensures.does c.run_with_book.ensures.causes
 
 pub returns-clause-determined : goal.returns-clause-determined
 returns-clause-determined g c = one_book_answer c.a_book_has_one_answer.ensures c.a_run_over_a_book_is_one.ensures
