@@ -56,3 +56,21 @@ returns-clause-as_ever g c = c.behind_turn_0_a_run_is_as_ever.ensures
 
 pub returns-clause-anew : goal.returns-clause-anew
 returns-clause-anew g c = c.a_new_machine_runs_as_ever.ensures
+
+pub returns-clause-power_cut : goal.returns-clause-power_cut
+returns-clause-power_cut g c = c.a_power_cut_is_survived.ensures
+
+pub returns-clause-stop : goal.returns-clause-stop
+returns-clause-stop g c = c.a_stop_is_turn_0.ensures.one
+
+pub returns-clause-since : goal.returns-clause-since
+returns-clause-since g c = c.nothing_old_is_sent.ensures
+
+pub returns-clause-runs : goal.returns-clause-runs
+returns-clause-runs g c = c.woven_nodes_run_behind_the_reading.ensures.runs
+
+pub returns-clause-woven : goal.returns-clause-woven
+returns-clause-woven g c = c.what_carries_bytes_in_order_is_enough.ensures.woven
+
+pub returns-clause-logs : goal.returns-clause-logs
+returns-clause-logs g c = c.the_merged_log_over_tcp_is_right.ensures
