@@ -11,6 +11,7 @@ use line_base::{Memory, Word, Words};
 use line_outside::{HostClock, SocketPorts, WriterSink};
 use node_cli::{BookStatus, NodeStatus, node_book_main, tell_book_end};
 use std::alloc::AllocError;
+use std::fs::File;
 use std::net::Net;
 use std::process::ExitCode;
 use std::rt::{Clock, Env, Files};
@@ -27,7 +28,7 @@ fn main(rt: HostRuntime) -> ExitCode {
 
 fn run<R>(rt: &R) -> Result<BookStatus, Memory>
 where
-    R: Net + Clock + Clone + Drop + Env + Files + Print + AllocGlobal,
+    R: Net + Clock + Clone + Drop + Env + Files<File = File> + Print + AllocGlobal,
 {
     let words = words_of(rt)?;
     let mut file = SettingsFile::open(rt, &words);

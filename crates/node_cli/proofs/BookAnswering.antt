@@ -23,8 +23,9 @@ use Rattle.node_settings.specs.declared.settings.Settings.{Settings}
 use Rattle.law_node_runs.specs.One.{Agree, answers_of}
 use Rattle.restart_book.specs.Exactly.{EachBookHasOneAnswer}
 use Rattle.restart_book.specs.Replay.{IsResumedAs}
-use Rattle.node_cli.specs.BookAnswered.{BookAnswers, Change, Counts, EachBookInputHasOneAnswer, GoesOn, IsBookAnswer, IsBookAnswered, IsBookRun, IsEndAlone, IsReadAnswer, answered, book_failed, counts, file_failed, goes_on, is_bad, is_too_long, kept_on, log_failed, memory_wanted, stays}
-use Rattle.node_commands.specs.Books.{DoesBook, DoesBookFile, DoesNodeBook, DoesRead, HasBookCauses, IsUntouched, Outside, RunsOn, book_status}
+use Rattle.node_cli.specs.BookAnswered.{BookAnswers, Change, Counts, EachBookInputHasOneAnswer, GoesOn, IsBookAnswer, IsBookAnswered, IsBookRun, IsEndAlone, IsReadAnswer, IsTakingAnswer, answered, book_failed, counts, file_failed, goes_on, is_bad, is_too_long, kept_on, log_failed, memory_wanted, stays}
+use Rattle.node_commands.specs.Books.{DoesBook, DoesBookFile, DoesNodeBook, DoesRead, DoesTaking, HasBookCauses, IsUntouched, Outside, RunsOn, book_status}
+use Rattle.node_commands.specs.Taking.{IsHeld}
 use Rattle.node_commands.specs.declared.book_status.BookStatus.{BookStatus}
 use Rattle.node_commands.specs.declared.book_status.BookStatus.TheVariants as ends
 
@@ -38,80 +39,100 @@ grows_none : (log : Option (List ℕ)) → Grows log log []
 grows_none None = tt
 grows_none (Some bytes) = sym (append-nil bytes)
 
-quiet_answer : {Answer : List ℤ → List Given → List ℕ → Change → BookStatus → Type 0} (told : Option ℤ) (old new : Outside) (before now : Counts) (status : BookStatus) → IsUntouched old new → Answer [] [] [] stays status → BookAnswers Answer told old new before now status
-quiet_answer {Answer} told old new before now status quiet is =
+-- some is as it is told
+as_told : Option Bool → Bool
+as_told None = false
+as_told (Some held) = held
+
+held_as_told : (busy : Option Bool) → IsHeld busy (as_told busy)
+held_as_told None = tt
+held_as_told (Some held) = refl
+
+quiet_answer : {Answer : Bool → List ℤ → List Given → List ℕ → Change → BookStatus → Type 0} (busy : Option Bool) (held : Bool) (told : Option ℤ) (old new : Outside) (before now : Counts) (status : BookStatus) → IsHeld busy held → IsUntouched old new → Answer held [] [] [] stays status
+    → BookAnswers Answer busy told old new before now status
+quiet_answer {Answer} busy held told old new before now status is_held quiet is =
     let given : Gains old.given new.given [] = subst (λ (g : Option (List Given)). Gains old.given g []) (sym quiet.given) (gains_none old.given) in
     let log : Grows old.log new.log [] = subst (λ (l : Option (List ℕ)). Grows old.log l []) (sym quiet.log) (grows_none old.log) in
-    answered {moments = []} {calls = []} {log = []} {change = stays} (All-nil (IsMoment told)) is given log quiet.book
+    answered {held = held} {moments = []} {calls = []} {log = []} {change = stays} is_held (All-nil (IsMoment told)) is given log quiet.book
 
-whole_run : (told : Option ℤ) (settings : Settings) (book : List ℕ) (old new : Outside) (before now : Counts) (status : NodeStatus) → (on : RunsOn told settings book old new (booked.Node status)) → (t : RunState)
-    → HasRunKept told (rules_of settings) (begun (neighbours_of settings) on.node on.drives) t on.whole old.given new.given old.log new.log on.cut new.book → begins_again t ≡ false → next_of (rules_of settings) t ≡ nexts.End status
-    → BookAnswers (IsBookRun settings book) told old new before now (ends.Node status)
-whole_run told settings book old new before now status on t run begun_is ends_is =
+whole_run : (busy : Option Bool) (told : Option ℤ) (settings : Settings) (book : List ℕ) (old new : Outside) (before now : Counts) (status : NodeStatus) → IsHeld busy false → (on : RunsOn told settings book old new (booked.Node status)) → (t : RunState)
+    → HasRunKept told (rules_of settings) (begun (neighbours_of settings) on.node on.drives) t on.whole old.given new.given old.log new.log on.mended new.book → begins_again t ≡ false → next_of (rules_of settings) t ≡ nexts.End status
+    → BookAnswers (λ held. IsTakingAnswer held settings book) busy told old new before now (ends.Node status)
+whole_run busy told settings book old new before now status free on t run begun_is ends_is =
     let is : IsWholeKept (rules_of settings) (begun (neighbours_of settings) on.node on.drives) on.whole run.moments run.calls run.log run.entries status = record { reached = t; run = run.run; fits = run.kept.fits; begun = begun_is; ends = ends_is } in
-    let goes : GoesOn settings book run.moments run.calls run.log (kept_on on.whole run.entries) (ends.Node status) =
+    let goes : GoesOn settings book run.moments run.calls run.log (kept_on (length book) on.whole run.entries) (ends.Node status) =
     record { short = on.short; node = on.node; drives = on.drives; whole = on.whole; resumed = on.resumed; entries = run.entries; end = booked.Node status; ends = is; change_is = refl; status_is = refl } in
-    answered {moments = run.moments} {calls = run.calls} {log = run.log} {change = kept_on on.whole run.entries} run.at (goes_on goes) run.told run.logged (record { cut = on.cut; is_cut = on.is_cut; grows = run.kept.grows })
+    answered {held = false} {moments = run.moments} {calls = run.calls} {log = run.log} {change = kept_on (length book) on.whole run.entries} free run.at (goes_on goes) run.told run.logged (record { mended = on.mended; is_mended = on.is_mended; grows = run.kept.grows })
 
-full_run : (told : Option ℤ) (settings : Settings) (book : List ℕ) (old new : Outside) (before now : Counts) → (on : RunsOn told settings book old new booked.BookFull)
-    → StopsFull told (rules_of settings) (begun (neighbours_of settings) on.node on.drives) on.whole old.given new.given old.log new.log on.cut new.book → BookAnswers (IsBookRun settings book) told old new before now ends.BookFull
-full_run told settings book old new before now on stop =
+full_run : (busy : Option Bool) (told : Option ℤ) (settings : Settings) (book : List ℕ) (old new : Outside) (before now : Counts) → IsHeld busy false → (on : RunsOn told settings book old new booked.BookFull)
+    → StopsFull told (rules_of settings) (begun (neighbours_of settings) on.node on.drives) on.whole old.given new.given old.log new.log on.mended new.book → BookAnswers (λ held. IsTakingAnswer held settings book) busy told old new before now ends.BookFull
+full_run busy told settings book old new before now free on stop =
     let stops = stop.stops in
     let moments = stops.moments ++ stops.moment ∷ [] in
     let calls = stops.calls ++ stops.last in
     let is : IsFullKept (rules_of settings) (begun (neighbours_of settings) on.node on.drives) on.whole moments calls stops.log stops.entries =
     record { before = stops.moments; moment = stops.moment; moments_are = refl; done = stops.calls; last = stops.last; calls_are = refl; reached = stops.reached; after = stops.after; lines = stops.lines; run = stops.run; fits = stops.kept.fits; move = stops.move; made = stops.made; full = stop.full } in
-    let goes : GoesOn settings book moments calls stops.log (kept_on on.whole stops.entries) ends.BookFull =
+    let goes : GoesOn settings book moments calls stops.log (kept_on (length book) on.whole stops.entries) ends.BookFull =
     record { short = on.short; node = on.node; drives = on.drives; whole = on.whole; resumed = on.resumed; entries = stops.entries; end = booked.BookFull; ends = is; change_is = refl; status_is = refl } in
-    answered {moments = moments} {calls = calls} {log = stops.log} {change = kept_on on.whole stops.entries} (All-push (IsMoment told) stops.moments stops.moment stops.at stops.now) (goes_on goes) stops.told stops.logged
-    (record { cut = on.cut; is_cut = on.is_cut; grows = stops.kept.grows })
+    answered {held = false} {moments = moments} {calls = calls} {log = stops.log} {change = kept_on (length book) on.whole stops.entries} free (All-push (IsMoment told) stops.moments stops.moment stops.at stops.now) (goes_on goes) stops.told stops.logged
+    (record { mended = on.mended; is_mended = on.is_mended; grows = stops.kept.grows })
 
-ran : (told : Option ℤ) (settings : Settings) (book : List ℕ) (old new : Outside) (before now : Counts) (fb fn pb pn lb ln bb bn : ℕ) (status : BookStatus) → before ≡ counts fb lb bb → now ≡ counts fn ln bn
-    → DoesBook told settings book old new status → HasBookCauses status fb fn pb pn lb ln bb bn → BookAnswers (IsBookRun settings book) told old new before now status
-ran told settings book old new before now fb fn pb pn lb ln bb bn (ends.BookRefused at why) then after does causes = quiet_answer told old new before now (ends.BookRefused at why) does.untouched (is_bad does.short does.bad (refl, refl, refl, refl))
-ran told settings book old new before now fb fn pb pn lb ln bb bn ends.BookFull then after (inl large) causes = quiet_answer told old new before now ends.BookFull large.1 (is_too_long large.0 (refl, refl, refl, refl))
-ran told settings book old new before now fb fn pb pn lb ln bb bn ends.BookFull then after (inr on) causes = full_run told settings book old new before now on on.runs
-ran told settings book old new before now fb fn pb pn lb ln bb bn ends.BookFault then after does causes =
-    let P : Counts → Type 0 = λ c. BookAnswers (IsBookRun settings book) told old new c now ends.BookFault in
-    let Q : Counts → Type 0 = λ c. BookAnswers (IsBookRun settings book) told old new (counts fb lb bb) c ends.BookFault in
+whole_of : (busy : Option Bool) (told : Option ℤ) (settings : Settings) (book : List ℕ) (old new : Outside) (before now : Counts) (status : NodeStatus) → IsHeld busy false → (on : RunsOn told settings book old new (booked.Node status))
+    → (t : RunState) × HasRunKept told (rules_of settings) (begun (neighbours_of settings) on.node on.drives) t on.whole old.given new.given old.log new.log on.mended new.book × (begins_again t ≡ false) × (next_of (rules_of settings) t ≡ nexts.End status)
+    → BookAnswers (λ held. IsTakingAnswer held settings book) busy told old new before now (ends.Node status)
+whole_of busy told settings book old new before now status free on ended = whole_run busy told settings book old new before now status free on ended.0 ended.1 ended.2 ended.3
+
+full_or : (busy : Option Bool) (told : Option ℤ) (settings : Settings) (book : List ℕ) (old new : Outside) (before now : Counts) → IsHeld busy false → DoesBook told settings book old new ends.BookFull → BookAnswers (λ held. IsTakingAnswer held settings book) busy told old new before now ends.BookFull
+full_or busy told settings book old new before now free (inl large) = quiet_answer busy false told old new before now ends.BookFull free large.1 (is_too_long large.0 (refl, refl, refl, refl))
+full_or busy told settings book old new before now free (inr on) = full_run busy told settings book old new before now free on on.runs
+
+ran : (busy : Option Bool) (told : Option ℤ) (settings : Settings) (book : List ℕ) (old new : Outside) (before now : Counts) (fb fn pb pn lb ln bb bn : ℕ) (status : BookStatus) → before ≡ counts fb lb bb → now ≡ counts fn ln bn
+    → DoesTaking busy told settings (Some book) old new status → HasBookCauses status fb fn pb pn lb ln bb bn → BookAnswers (λ held. IsTakingAnswer held settings book) busy told old new before now status
+ran busy told settings book old new before now fb fn pb pn lb ln bb bn ends.BookBusy then after does causes = quiet_answer busy true told old new before now ends.BookBusy does.0 does.1 (refl, refl, refl, refl)
+ran busy told settings book old new before now fb fn pb pn lb ln bb bn (ends.BookRefused at why) then after on causes = quiet_answer busy false told old new before now (ends.BookRefused at why) on.free on.does.untouched (is_bad on.does.short on.does.bad (refl, refl, refl, refl))
+ran busy told settings book old new before now fb fn pb pn lb ln bb bn ends.BookFull then after on causes = full_or busy told settings book old new before now on.free on.does
+ran busy told settings book old new before now fb fn pb pn lb ln bb bn ends.BookFault then after does causes =
+    let P : Counts → Type 0 = λ c. BookAnswers (λ held. IsTakingAnswer held settings book) busy told old new c now ends.BookFault in
+    let Q : Counts → Type 0 = λ c. BookAnswers (λ held. IsTakingAnswer held settings book) busy told old new (counts fb lb bb) c ends.BookFault in
     subst P (sym then) (subst Q (sym after) (book_failed refl (causes.book, causes.book_fault refl)))
-ran told settings book old new before now fb fn pb pn lb ln bb bn (ends.Node statuses.Memory) then after does causes = memory_wanted refl
-ran told settings book old new before now fb fn pb pn lb ln bb bn (ends.Node statuses.LogFault) then after does causes =
-    let P : Counts → Type 0 = λ c. BookAnswers (IsBookRun settings book) told old new c now (ends.Node statuses.LogFault) in
-    let Q : Counts → Type 0 = λ c. BookAnswers (IsBookRun settings book) told old new (counts fb lb bb) c (ends.Node statuses.LogFault) in
+ran busy told settings book old new before now fb fn pb pn lb ln bb bn (ends.Node statuses.Memory) then after does causes = memory_wanted refl
+ran busy told settings book old new before now fb fn pb pn lb ln bb bn (ends.Node statuses.LogFault) then after does causes =
+    let P : Counts → Type 0 = λ c. BookAnswers (λ held. IsTakingAnswer held settings book) busy told old new c now (ends.Node statuses.LogFault) in
+    let Q : Counts → Type 0 = λ c. BookAnswers (λ held. IsTakingAnswer held settings book) busy told old new (counts fb lb bb) c (ends.Node statuses.LogFault) in
     subst P (sym then) (subst Q (sym after) (log_failed refl (causes.log, causes.log_fault refl)))
-ran told settings book old new before now fb fn pb pn lb ln bb bn (ends.Node statuses.Done) then after on causes = whole_run told settings book old new before now statuses.Done on on.runs.0 on.runs.1 on.runs.2 on.runs.3
-ran told settings book old new before now fb fn pb pn lb ln bb bn (ends.Node statuses.Usage) then after on causes = whole_run told settings book old new before now statuses.Usage on on.runs.0 on.runs.1 on.runs.2 on.runs.3
-ran told settings book old new before now fb fn pb pn lb ln bb bn (ends.Node (statuses.ConfigRefused key why)) then after on causes = whole_run told settings book old new before now (statuses.ConfigRefused key why) on on.runs.0 on.runs.1 on.runs.2 on.runs.3
-ran told settings book old new before now fb fn pb pn lb ln bb bn (ends.Node statuses.ReadFault) then after on causes = whole_run told settings book old new before now statuses.ReadFault on on.runs.0 on.runs.1 on.runs.2 on.runs.3
-ran told settings book old new before now fb fn pb pn lb ln bb bn (ends.Node (statuses.ListenFault address)) then after on causes = whole_run told settings book old new before now (statuses.ListenFault address) on on.runs.0 on.runs.1 on.runs.2 on.runs.3
-ran told settings book old new before now fb fn pb pn lb ln bb bn (ends.Node statuses.TurnsUsed) then after on causes = whole_run told settings book old new before now statuses.TurnsUsed on on.runs.0 on.runs.1 on.runs.2 on.runs.3
+ran busy told settings book old new before now fb fn pb pn lb ln bb bn (ends.Node statuses.Done) then after on causes = whole_of busy told settings book old new before now statuses.Done on.free on.does on.does.runs
+ran busy told settings book old new before now fb fn pb pn lb ln bb bn (ends.Node statuses.Usage) then after on causes = whole_of busy told settings book old new before now statuses.Usage on.free on.does on.does.runs
+ran busy told settings book old new before now fb fn pb pn lb ln bb bn (ends.Node (statuses.ConfigRefused key why)) then after on causes = whole_of busy told settings book old new before now (statuses.ConfigRefused key why) on.free on.does on.does.runs
+ran busy told settings book old new before now fb fn pb pn lb ln bb bn (ends.Node statuses.ReadFault) then after on causes = whole_of busy told settings book old new before now statuses.ReadFault on.free on.does on.does.runs
+ran busy told settings book old new before now fb fn pb pn lb ln bb bn (ends.Node (statuses.ListenFault address)) then after on causes = whole_of busy told settings book old new before now (statuses.ListenFault address) on.free on.does on.does.runs
+ran busy told settings book old new before now fb fn pb pn lb ln bb bn (ends.Node statuses.TurnsUsed) then after on causes = whole_of busy told settings book old new before now statuses.TurnsUsed on.free on.does on.does.runs
 
-read_answered : (read : Result Settings Refusal) (told : Option ℤ) (book : List ℕ) (old new : Outside) (fb fn pb pn lb ln bb bn : ℕ) (status : BookStatus) → DoesRead read told (Some book) old new status → HasBookCauses status fb fn pb pn lb ln bb bn
-    → BookAnswers (IsReadAnswer read book) told old new (counts fb lb bb) (counts fn ln bn) status
-read_answered (Ok settings) told book old new fb fn pb pn lb ln bb bn status does causes = ran told settings book old new (counts fb lb bb) (counts fn ln bn) fb fn pb pn lb ln bb bn status refl refl does causes
-read_answered (Err refusal) told book old new fb fn pb pn lb ln bb bn status does causes = quiet_answer told old new (counts fb lb bb) (counts fn ln bn) status does.1 (does.0, refl, refl, refl)
+read_answered : (read : Result Settings Refusal) (busy : Option Bool) (told : Option ℤ) (book : List ℕ) (old new : Outside) (fb fn pb pn lb ln bb bn : ℕ) (status : BookStatus) → DoesRead read busy told (Some book) old new status → HasBookCauses status fb fn pb pn lb ln bb bn
+    → BookAnswers (λ held. IsReadAnswer read held book) busy told old new (counts fb lb bb) (counts fn ln bn) status
+read_answered (Ok settings) busy told book old new fb fn pb pn lb ln bb bn status does causes = ran busy told settings book old new (counts fb lb bb) (counts fn ln bn) fb fn pb pn lb ln bb bn status refl refl does causes
+read_answered (Err refusal) busy told book old new fb fn pb pn lb ln bb bn status does causes = quiet_answer busy (as_told busy) told old new (counts fb lb bb) (counts fn ln bn) status (held_as_told busy) does.1 (does.0, refl, refl, refl)
 
-one_word : (file book : List ℕ) (told : Option ℤ) (old new : Outside) (fb fn pb pn lb ln bb bn : ℕ) (status : BookStatus) → DoesBookFile file told (Some book) old new status → HasBookCauses status fb fn pb pn lb ln bb bn
-    → BookAnswers (IsBookAnswer true file book) told old new (counts fb lb bb) (counts fn ln bn) status
-one_word file book told old new fb fn pb pn lb ln bb bn (ends.Node statuses.ReadFault) does causes = file_failed refl (causes.file, causes.read_fault refl)
-one_word file book told old new fb fn pb pn lb ln bb bn (ends.Node statuses.Memory) does causes = memory_wanted refl
-one_word file book told old new fb fn pb pn lb ln bb bn (ends.Node statuses.Done) does causes = read_answered (read_of file) told book old new fb fn pb pn lb ln bb bn (ends.Node statuses.Done) does causes
-one_word file book told old new fb fn pb pn lb ln bb bn (ends.Node statuses.Usage) does causes = read_answered (read_of file) told book old new fb fn pb pn lb ln bb bn (ends.Node statuses.Usage) does causes
-one_word file book told old new fb fn pb pn lb ln bb bn (ends.Node (statuses.ConfigRefused key why)) does causes = read_answered (read_of file) told book old new fb fn pb pn lb ln bb bn (ends.Node (statuses.ConfigRefused key why)) does causes
-one_word file book told old new fb fn pb pn lb ln bb bn (ends.Node statuses.LogFault) does causes = read_answered (read_of file) told book old new fb fn pb pn lb ln bb bn (ends.Node statuses.LogFault) does causes
-one_word file book told old new fb fn pb pn lb ln bb bn (ends.Node (statuses.ListenFault address)) does causes = read_answered (read_of file) told book old new fb fn pb pn lb ln bb bn (ends.Node (statuses.ListenFault address)) does causes
-one_word file book told old new fb fn pb pn lb ln bb bn (ends.Node statuses.TurnsUsed) does causes = read_answered (read_of file) told book old new fb fn pb pn lb ln bb bn (ends.Node statuses.TurnsUsed) does causes
-one_word file book told old new fb fn pb pn lb ln bb bn ends.BookFault does causes = read_answered (read_of file) told book old new fb fn pb pn lb ln bb bn ends.BookFault does causes
-one_word file book told old new fb fn pb pn lb ln bb bn (ends.BookRefused at why) does causes = read_answered (read_of file) told book old new fb fn pb pn lb ln bb bn (ends.BookRefused at why) does causes
-one_word file book told old new fb fn pb pn lb ln bb bn ends.BookFull does causes = read_answered (read_of file) told book old new fb fn pb pn lb ln bb bn ends.BookFull does causes
+one_word : (file book : List ℕ) (busy : Option Bool) (told : Option ℤ) (old new : Outside) (fb fn pb pn lb ln bb bn : ℕ) (status : BookStatus) → DoesBookFile file busy told (Some book) old new status → HasBookCauses status fb fn pb pn lb ln bb bn
+    → BookAnswers (λ held. IsBookAnswer true file held book) busy told old new (counts fb lb bb) (counts fn ln bn) status
+one_word file book busy told old new fb fn pb pn lb ln bb bn (ends.Node statuses.ReadFault) does causes = file_failed refl (causes.file, causes.read_fault refl)
+one_word file book busy told old new fb fn pb pn lb ln bb bn (ends.Node statuses.Memory) does causes = memory_wanted refl
+one_word file book busy told old new fb fn pb pn lb ln bb bn (ends.Node statuses.Done) does causes = read_answered (read_of file) busy told book old new fb fn pb pn lb ln bb bn (ends.Node statuses.Done) does causes
+one_word file book busy told old new fb fn pb pn lb ln bb bn (ends.Node statuses.Usage) does causes = read_answered (read_of file) busy told book old new fb fn pb pn lb ln bb bn (ends.Node statuses.Usage) does causes
+one_word file book busy told old new fb fn pb pn lb ln bb bn (ends.Node (statuses.ConfigRefused key why)) does causes = read_answered (read_of file) busy told book old new fb fn pb pn lb ln bb bn (ends.Node (statuses.ConfigRefused key why)) does causes
+one_word file book busy told old new fb fn pb pn lb ln bb bn (ends.Node statuses.LogFault) does causes = read_answered (read_of file) busy told book old new fb fn pb pn lb ln bb bn (ends.Node statuses.LogFault) does causes
+one_word file book busy told old new fb fn pb pn lb ln bb bn (ends.Node (statuses.ListenFault address)) does causes = read_answered (read_of file) busy told book old new fb fn pb pn lb ln bb bn (ends.Node (statuses.ListenFault address)) does causes
+one_word file book busy told old new fb fn pb pn lb ln bb bn (ends.Node statuses.TurnsUsed) does causes = read_answered (read_of file) busy told book old new fb fn pb pn lb ln bb bn (ends.Node statuses.TurnsUsed) does causes
+one_word file book busy told old new fb fn pb pn lb ln bb bn ends.BookFault does causes = read_answered (read_of file) busy told book old new fb fn pb pn lb ln bb bn ends.BookFault does causes
+one_word file book busy told old new fb fn pb pn lb ln bb bn (ends.BookRefused at why) does causes = read_answered (read_of file) busy told book old new fb fn pb pn lb ln bb bn (ends.BookRefused at why) does causes
+one_word file book busy told old new fb fn pb pn lb ln bb bn ends.BookFull does causes = read_answered (read_of file) busy told book old new fb fn pb pn lb ln bb bn ends.BookFull does causes
+one_word file book busy told old new fb fn pb pn lb ln bb bn ends.BookBusy does causes = read_answered (read_of file) busy told book old new fb fn pb pn lb ln bb bn ends.BookBusy does causes
 
-pub answers_so : (one : Bool) (file left : Option (List ℕ)) (told : Option ℤ) (old new : Outside) (fb fn pb pn lb ln bb bn : ℕ) (status : BookStatus) → DoesNodeBook one file left told old new status → HasBookCauses status fb fn pb pn lb ln bb bn
-    → IsBookAnswered one file left told old new (counts fb lb bb) (counts fn ln bn) status
-answers_so one None left told old new fb fn pb pn lb ln bb bn status does causes = tt
-answers_so one (Some file) None told old new fb fn pb pn lb ln bb bn status does causes = tt
-answers_so false (Some file) (Some book) told old new fb fn pb pn lb ln bb bn status does causes = quiet_answer told old new (counts fb lb bb) (counts fn ln bn) status does.1 (does.0, refl, refl, refl)
-answers_so true (Some file) (Some book) told old new fb fn pb pn lb ln bb bn status does causes = one_word file book told old new fb fn pb pn lb ln bb bn status does causes
+pub answers_so : (one : Bool) (file : Option (List ℕ)) (busy : Option Bool) (left : Option (List ℕ)) (told : Option ℤ) (old new : Outside) (fb fn pb pn lb ln bb bn : ℕ) (status : BookStatus) → DoesNodeBook one file busy left told old new status → HasBookCauses status fb fn pb pn lb ln bb bn
+    → IsBookAnswered one file busy left told old new (counts fb lb bb) (counts fn ln bn) status
+answers_so one None busy left told old new fb fn pb pn lb ln bb bn status does causes = tt
+answers_so one (Some file) busy None told old new fb fn pb pn lb ln bb bn status does causes = tt
+answers_so false (Some file) busy (Some book) told old new fb fn pb pn lb ln bb bn status does causes = quiet_answer busy (as_told busy) told old new (counts fb lb bb) (counts fn ln bn) status (held_as_told busy) does.1 (does.0, refl, refl, refl)
+answers_so true (Some file) busy (Some book) told old new fb fn pb pn lb ln bb bn status does causes = one_word file book busy told old new fb fn pb pn lb ln bb bn status does causes
 
 -- ---- the one answer
 
@@ -147,7 +168,7 @@ on_once books runs settings book moments others calls more log text change other
     record {
       calls_same = once.0;
       log_same = once.1;
-      change_same = two.change_is ∙ ap (λ (n : ℕ). kept_on n two.entries) led.0 ∙ ap (kept_on one.whole) once.2 ∙ sym one.change_is;
+      change_same = two.change_is ∙ ap (λ (n : ℕ). kept_on (length book) n two.entries) led.0 ∙ ap (kept_on (length book) one.whole) once.2 ∙ sym one.change_is;
       end_same = two.status_is ∙ ap book_status once.3 ∙ sym one.status_is;
     }
 
@@ -167,14 +188,19 @@ run_once books runs settings book moments others calls more log text change othe
     absurd ((books (new_node (profile_of settings)) book).never_both one.whole at one.node one.resumed.acts why one.resumed.resumed bad)
 run_once books runs settings book moments others calls more log text change other status end times answers (goes_on one) (goes_on two) = on_once books runs settings book moments others calls more log text change other status end times answers one two
 
-read_once : EachBookHasOneAnswer → EachKeptRunIsOne → (read : Result Settings Refusal) (book : List ℕ) (moments others : List ℤ) (calls more : List Given) (log text : List ℕ) (change other : Change) (status end : BookStatus) → Agree moments others → Agree (answers_of calls) (answers_of more)
-    → IsReadAnswer read book moments calls log change status → IsReadAnswer read book others more text other end → AnswersOnce calls more log text change other status end
-read_once books runs (Ok settings) book moments others calls more log text change other status end times answers one two = run_once books runs settings book moments others calls more log text change other status end times answers one two
-read_once books runs (Err refusal) book moments others calls more log text change other status end times answers one two = alone_once refl one two
+taking_once : EachBookHasOneAnswer → EachKeptRunIsOne → (held : Bool) (settings : Settings) (book : List ℕ) (moments others : List ℤ) (calls more : List Given) (log text : List ℕ) (change other : Change) (status end : BookStatus) → Agree moments others → Agree (answers_of calls) (answers_of more)
+    → IsTakingAnswer held settings book moments calls log change status → IsTakingAnswer held settings book others more text other end → AnswersOnce calls more log text change other status end
+taking_once books runs true settings book moments others calls more log text change other status end times answers one two = alone_once refl one two
+taking_once books runs false settings book moments others calls more log text change other status end times answers one two = run_once books runs settings book moments others calls more log text change other status end times answers one two
+
+read_once : EachBookHasOneAnswer → EachKeptRunIsOne → (read : Result Settings Refusal) (held : Bool) (book : List ℕ) (moments others : List ℤ) (calls more : List Given) (log text : List ℕ) (change other : Change) (status end : BookStatus) → Agree moments others → Agree (answers_of calls) (answers_of more)
+    → IsReadAnswer read held book moments calls log change status → IsReadAnswer read held book others more text other end → AnswersOnce calls more log text change other status end
+read_once books runs (Ok settings) held book moments others calls more log text change other status end times answers one two = taking_once books runs held settings book moments others calls more log text change other status end times answers one two
+read_once books runs (Err refusal) held book moments others calls more log text change other status end times answers one two = alone_once refl one two
 
 said : {calls more : List Given} {log text : List ℕ} {change other : Change} {status end : BookStatus} → AnswersOnce calls more log text change other status end → (more ≡ calls) × (text ≡ log) × (other ≡ change) × (end ≡ status)
 said once = (once.calls_same, once.log_same, once.change_same, once.end_same)
 
 pub one_book_answer : EachBookHasOneAnswer → EachKeptRunIsOne → EachBookInputHasOneAnswer
-one_book_answer books runs false file book moments others calls more log text change other status end one two times answers = said (alone_once refl one two)
-one_book_answer books runs true file book moments others calls more log text change other status end one two times answers = said (read_once books runs (read_of file) book moments others calls more log text change other status end times answers one two)
+one_book_answer books runs false file held book moments others calls more log text change other status end one two times answers = said (alone_once refl one two)
+one_book_answer books runs true file held book moments others calls more log text change other status end one two times answers = said (read_once books runs (read_of file) held book moments others calls more log text change other status end times answers one two)

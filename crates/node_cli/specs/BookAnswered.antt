@@ -1,10 +1,9 @@
 -- OVER A BOOK, TOO, EACH INPUT HAS ONE ANSWER: that of the words, of the file's and the book's bytes,
--- and of what the ports answered at which moments, unless a count of faults rose, or memory was
--- wanting.
+-- of whether another process has the book, and of what the ports answered at which moments, unless a
+-- count of faults rose, or memory was wanting.
 use Rattle.std.specs.Prelude.{◌≡◌, ◌≤◌, ◌<◌, ℕ, ℤ, Bool, true, false, List, [], Option, Some, None, Result, Ok, Err, length}
 use Rattle.std.specs.List.{All}
 use Rattle.book_entry.specs.declared.entry.Entry.{Entry}
-use Rattle.book_keeper.specs.Keeping.{IsCut}
 use Rattle.book_entry.specs.Steps.{spelled}
 use Rattle.law_node_runs.specs.Kept.{EndsKept}
 use Rattle.line_outside.specs.Faults.{Rises}
@@ -26,23 +25,25 @@ use Rattle.law_node_runs.specs.One.{Agree, answers_of}
 use Rattle.restart_book.specs.Replay.{IsBadAt, IsResumedAs}
 use Rattle.restart_book.specs.declared.resuming.BookWhy.{BookWhy}
 use Rattle.node_commands.specs.Books.{Outside, book_status}
+use Rattle.node_commands.specs.Taking.{IsHeld, IsMended}
 use Rattle.node_commands.specs.declared.book_status.BookStatus.{BookStatus}
 use Rattle.node_commands.specs.declared.book_status.BookStatus.TheVariants as ends
 
--- what becomes of the book: it stays, or it is cut to its first bytes, so many, and has these entries
--- behind them
+-- what becomes of the book: it stays, or it is one of so many bytes of which so many are whole entries,
+-- is cut to these where its end is torn, and has these entries behind them
 pub data Change : Type 0 where
   stays : Change
-  kept_on : ℕ → List Entry → Change
+  kept_on : ℕ → ℕ → List Entry → Change
 
-pub record IsKeptOn (whole : ℕ) (entries : List Entry) (old new : Option (List ℕ)) : Type 0 where
-  pub cut : Option (List ℕ)
-  pub is_cut : IsCut old cut whole
-  pub grows : Grows cut new (spelled entries)
+pub record IsKeptOn (count whole : ℕ) (entries : List Entry) (old new : Option (List ℕ))
+    : Type 0 where
+  pub mended : Option (List ℕ)
+  pub is_mended : IsMended count whole old mended
+  pub grows : Grows mended new (spelled entries)
 
 abbrev pub Becomes : Change → Option (List ℕ) → Option (List ℕ) → Type 0
 Becomes stays old new = new ≡ old
-Becomes (kept_on whole entries) old new = IsKeptOn whole entries old new
+Becomes (kept_on count whole entries) old new = IsKeptOn count whole entries old new
 
 -- nothing but this status
 abbrev pub IsEndAlone : BookStatus → List Given → List ℕ → Change → BookStatus → Type 0
@@ -61,7 +62,7 @@ pub record GoesOn (settings : Settings) (book : List ℕ) (moments : List ℤ) (
   pub end : BookedStatus
   pub ends : EndsKept (rules_of settings) (begun (neighbours_of settings) node drives) whole
       moments calls log entries end
-  pub change_is : change ≡ kept_on whole entries
+  pub change_is : change ≡ kept_on (length book) whole entries
   pub status_is : status ≡ book_status end
 
 -- the answer to settings and a book: that it is too long, or bad, or that end
@@ -76,21 +77,30 @@ pub data IsBookRun (settings : Settings) (book : List ℕ) (moments : List ℤ) 
   goes_on : GoesOn settings book moments calls log change status
       → IsBookRun settings book moments calls log change status
 
-abbrev pub IsReadAnswer : Result Settings Refusal → List ℕ → List ℤ → List Given → List ℕ → Change
+-- where another process has the book, nothing but that
+abbrev pub IsTakingAnswer : Bool → Settings → List ℕ → List ℤ → List Given → List ℕ → Change
     → BookStatus → Type 0
-IsReadAnswer (Ok settings) book moments calls log change status =
+IsTakingAnswer true settings book moments calls log change status =
+    IsEndAlone ends.BookBusy calls log change status
+IsTakingAnswer false settings book moments calls log change status =
     IsBookRun settings book moments calls log change status
-IsReadAnswer (Err refusal) book moments calls log change status =
+
+abbrev pub IsReadAnswer : Result Settings Refusal → Bool → List ℕ → List ℤ → List Given → List ℕ
+    → Change → BookStatus → Type 0
+IsReadAnswer (Ok settings) held book moments calls log change status =
+    IsTakingAnswer held settings book moments calls log change status
+IsReadAnswer (Err refusal) held book moments calls log change status =
     IsEndAlone (ends.Node (statuses.ConfigRefused refusal.key refusal.why)) calls log change status
 
 -- THE ANSWER, with what is called, logged and made of the book: whether there is one word, the bytes
--- of the file that it names, those of the book, the moments, and in the calls what the ports answered
-abbrev pub IsBookAnswer : Bool → List ℕ → List ℕ → List ℤ → List Given → List ℕ → Change
+-- of the file that it names, whether another process has the book, its bytes, the moments, and in the
+-- calls what the ports answered
+abbrev pub IsBookAnswer : Bool → List ℕ → Bool → List ℕ → List ℤ → List Given → List ℕ → Change
     → BookStatus → Type 0
-IsBookAnswer false file book moments calls log change status =
+IsBookAnswer false file held book moments calls log change status =
     IsEndAlone (ends.Node statuses.Usage) calls log change status
-IsBookAnswer true file book moments calls log change status =
-    IsReadAnswer (read_of file) book moments calls log change status
+IsBookAnswer true file held book moments calls log change status =
+    IsReadAnswer (read_of file) held book moments calls log change status
 
 -- the counts of the file, the log and the book, before and now
 pub record Counts : Type 0 where
@@ -103,37 +113,39 @@ counts file log book = record { file = file; log = log; book = book }
 
 -- what is answered: that answer, each call, all of the log and of the book told, or in its place a
 -- fault of the file, of the log or of the book, whose count rose, or want of memory
-pub data BookAnswers (Answer : List ℤ → List Given → List ℕ → Change → BookStatus → Type 0)
-    (told : Option ℤ) (old new : Outside) (before now : Counts) (status : BookStatus)
-    : Type 0 where
-  answered : {moments : List ℤ} {calls : List Given} {log : List ℕ} {change : Change}
-      → All (IsMoment told) moments → Answer moments calls log change status
-      → Gains old.given new.given calls → Grows old.log new.log log
-      → Becomes change old.book new.book → BookAnswers Answer told old new before now status
+pub data BookAnswers
+    (Answer : Bool → List ℤ → List Given → List ℕ → Change → BookStatus → Type 0)
+    (busy : Option Bool) (told : Option ℤ) (old new : Outside) (before now : Counts)
+    (status : BookStatus) : Type 0 where
+  answered : {held : Bool} {moments : List ℤ} {calls : List Given} {log : List ℕ}
+      {change : Change} → IsHeld busy held → All (IsMoment told) moments
+      → Answer held moments calls log change status → Gains old.given new.given calls
+      → Grows old.log new.log log → Becomes change old.book new.book
+      → BookAnswers Answer busy told old new before now status
   file_failed : status ≡ ends.Node statuses.ReadFault → Rises before.file now.file
-      → BookAnswers Answer told old new before now status
+      → BookAnswers Answer busy told old new before now status
   log_failed : status ≡ ends.Node statuses.LogFault → Rises before.log now.log
-      → BookAnswers Answer told old new before now status
+      → BookAnswers Answer busy told old new before now status
   book_failed : status ≡ ends.BookFault → Rises before.book now.book
-      → BookAnswers Answer told old new before now status
+      → BookAnswers Answer busy told old new before now status
   memory_wanted : status ≡ ends.Node statuses.Memory
-      → BookAnswers Answer told old new before now status
+      → BookAnswers Answer busy told old new before now status
 
 -- the same, where the file and the book tell their bytes
-abbrev pub IsBookAnswered : Bool → Option (List ℕ) → Option (List ℕ) → Option ℤ → Outside → Outside
-    → Counts → Counts → BookStatus → Type 0
-IsBookAnswered one None left told old new before now status = Unit {0}
-IsBookAnswered one (Some file) None told old new before now status = Unit {0}
-IsBookAnswered one (Some file) (Some book) told old new before now status =
-    BookAnswers (IsBookAnswer one file book) told old new before now status
+abbrev pub IsBookAnswered : Bool → Option (List ℕ) → Option Bool → Option (List ℕ) → Option ℤ
+    → Outside → Outside → Counts → Counts → BookStatus → Type 0
+IsBookAnswered one None busy left told old new before now status = Unit {0}
+IsBookAnswered one (Some file) busy None told old new before now status = Unit {0}
+IsBookAnswered one (Some file) busy (Some book) told old new before now status =
+    BookAnswers (λ held. IsBookAnswer one file held book) busy told old new before now status
 
--- THE LAW: the same words, bytes, moments and answers have one answer, with one list of calls, one
--- log and one change of the book
+-- THE LAW: the same words, bytes, moments and answers, with the book another process's or not, have
+-- one answer, with one list of calls, one log and one change of the book
 abbrev pub EachBookInputHasOneAnswer : Type 0
 EachBookInputHasOneAnswer =
-    (one : Bool) (file book : List ℕ) (moments others : List ℤ) (calls more : List Given)
-    (log text : List ℕ) (change other : Change) (status end : BookStatus)
-    → IsBookAnswer one file book moments calls log change status
-    → IsBookAnswer one file book others more text other end → Agree moments others
+    (one : Bool) (file : List ℕ) (held : Bool) (book : List ℕ) (moments others : List ℤ)
+    (calls more : List Given) (log text : List ℕ) (change other : Change)
+    (status end : BookStatus) → IsBookAnswer one file held book moments calls log change status
+    → IsBookAnswer one file held book others more text other end → Agree moments others
     → Agree (answers_of calls) (answers_of more)
     → (more ≡ calls) × (text ≡ log) × (other ≡ change) × (end ≡ status)

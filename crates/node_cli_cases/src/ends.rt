@@ -29,6 +29,7 @@ fn status_of(name: &str) -> BookStatus {
             why: BookWhy::NotPossible,
         },
         "BookFull" => BookStatus::BookFull,
+        "BookBusy" => BookStatus::BookBusy,
         name => BookStatus::Node(node_status_of(name)),
     }
 }

@@ -26,6 +26,9 @@ fault_text =
 abbrev pub full_text : List ℕ
 full_text = codes "node: the book is full; keep it apart, and begin a new one\n"
 
+abbrev pub busy_text : List ℕ
+busy_text = codes "node: another process has the book; end that one first, or give another settings file\n"
+
 -- a line was appended whole; or the sink failed, whose count rose, and a front of it was; or
 -- nothing was, since a line that names a byte wanted memory
 abbrev pub TellsLine : List ℕ → Bool → {A : Type 0} → Result A EndError → Option (List ℕ)
@@ -46,3 +49,5 @@ TellsBookEnd (books.BookRefused at why) result old new before now =
     TellsLine (refused_book_text at why) true result old new before now
 TellsBookEnd books.BookFull result old new before now =
     TellsLine full_text false result old new before now
+TellsBookEnd books.BookBusy result old new before now =
+    TellsLine busy_text false result old new before now

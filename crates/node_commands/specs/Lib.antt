@@ -2,3 +2,4 @@ pub mod Command
 pub mod Books
 pub mod Ends
 pub mod BookEnds
+pub mod Taking

@@ -26,6 +26,10 @@ pub fn tell_book_end<K: Sink>(alloc: Global, status: BookStatus, to: &mut K) -> 
             b"node: the book is full; keep it apart, and begin a new one\n",
             to,
         ),
+        BookStatus::BookBusy => tell_line(
+            b"node: another process has the book; end that one first, or give another settings file\n",
+            to,
+        ),
     }
 }
 

@@ -9,13 +9,15 @@ use restart_book::BookWhy;
 pub enum BookStatus {
     /// As without a book.
     Node(NodeStatus),
-    /// The book could not be read, cut or written.
+    /// The book could not be opened, read, cut or written.
     BookFault,
     /// The machine can't begin again from the book: what begins at this byte is no entry, or there is
     /// a reason against it then.
     BookRefused { at: u64, why: BookWhy },
     /// The book has more than 1,073,741,824 bytes, or would have with its next entry.
     BookFull,
+    /// Another process has the book. Nothing was done.
+    BookBusy,
 }
 
 impl BookStatus {
@@ -28,6 +30,7 @@ impl BookStatus {
             BookStatus::BookFault => 9,
             BookStatus::BookRefused { at: _, why: _ } => 10,
             BookStatus::BookFull => 11,
+            BookStatus::BookBusy => 12,
         }
     }
 }

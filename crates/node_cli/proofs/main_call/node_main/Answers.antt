@@ -43,3 +43,15 @@ returns-clause-neighbours g c = c.woven_nodes_run_behind_the_reading.ensures.sta
 
 pub returns-clause-over_tcp : goal.returns-clause-over_tcp
 returns-clause-over_tcp g c = c.what_carries_bytes_in_order_is_enough.ensures.stand
+
+pub returns-clause-since : goal.returns-clause-since
+returns-clause-since g c = c.nothing_old_is_sent.ensures
+
+pub returns-clause-runs : goal.returns-clause-runs
+returns-clause-runs g c = c.woven_nodes_run_behind_the_reading.ensures.runs
+
+pub returns-clause-woven : goal.returns-clause-woven
+returns-clause-woven g c = c.what_carries_bytes_in_order_is_enough.ensures.woven
+
+pub returns-clause-logs : goal.returns-clause-logs
+returns-clause-logs g c = c.the_merged_log_over_tcp_is_right.ensures

@@ -13,3 +13,9 @@ returns-in-BookFull g c =
     let told = c.tell_line-in-BookFull in
     let P : BookStatus → Type 0 = λ status. TellsBookEnd status told.result (g.K.Sink.contents c.args.to.now) (g.K.Sink.contents told.new.to) (g.K.Sink.faults c.args.to.now) (g.K.Sink.faults told.new.to) in
     subst P (sym c.in-BookFull.is) (told.ensures false)
+
+pub returns-in-BookBusy : goal.returns-in-BookBusy
+returns-in-BookBusy g c =
+    let told = c.tell_line-in-BookBusy in
+    let P : BookStatus → Type 0 = λ status. TellsBookEnd status told.result (g.K.Sink.contents c.args.to.now) (g.K.Sink.contents told.new.to) (g.K.Sink.faults c.args.to.now) (g.K.Sink.faults told.new.to) in
+    subst P (sym c.in-BookBusy.is) (told.ensures false)
