@@ -45,6 +45,7 @@ as_told None = false
 as_told (Some held) = held
 
 held_as_told : (busy : Option Bool) → IsHeld busy (as_told busy)
+unfolding as_told
 held_as_told None = tt
 held_as_told (Some held) = refl
 
