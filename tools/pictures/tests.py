@@ -275,7 +275,7 @@ HANDED = """0 insert 1 ID/0 sends 1 out BoardAvailable/0 with 1 ID/1 hears 1 out
 11 sends 2 in MachineReady/11 with 2 ID/12 hears 1 out StopTransport 3"""
 BEGUN = """1 machine 1 99/2 machine 2 99/3 connects 2/3 sends 2 in ServiceDescription/4 hears 1 out ServiceDescription/4 sends 1 out ServiceDescription/
 5 hears 2 in ServiceDescription/5 sends 2 in MachineReady"""
-# the same up to the cut, behind which nobody takes the board, or somebody does
+# the same up to the cut, after which nobody takes the board, or somebody does
 DROPPED = """9 cut 1/10 notices 1 out/11 notices 2 in/TAKEN12 drops 1 ID/12 gone ID/13 connects 2/13 sends 2 in ServiceDescription/
 14 hears 1 out ServiceDescription/14 sends 1 out ServiceDescription/15 hears 2 in ServiceDescription/15 sends 2 in MachineReady"""
 TAKEN = "11 move 1 take/12 reads 2 in Taken/"
